@@ -1,0 +1,4 @@
+pub mod Form
+pub mod Pair
+pub mod Reader
+pub mod Symbol

@@ -1,0 +1,249 @@
+// The reader of a part, one symbol at a time (01, "Wire form" and "Reading"). It knows nothing of stations.
+ghost use mathlib.Core.Path.{_≡_};
+ghost use mathlib.Core.Bool.{true, false};
+ghost use Rattle.wire.specs.Reader.{placeAfter, masterStart, answerStart, readOne, ended, onward, more, readEscape, readOther, readQq, readNn, readData, readByte, readCrc};
+use crate::pair;
+use crate::pair::Undone;
+use crate::part::Load;
+use crate::part::Telegram;
+use crate::symbol;
+use crate::symbol::Kind;
+
+// Which symbol of the part comes next. Data counts the bytes already read.
+pub enum Place {
+    Qq,
+    Zz,
+    Pb,
+    Sb,
+    Nn,
+    Data(u8),
+    Crc,
+}
+
+// How far a part has been read: symbols heard since its first, what comes next, whether an A9 waits for its second
+// symbol, the CRC's register, and NN.
+pub struct Cursor {
+    pub at: u8,
+    pub place: Place,
+    pub opened: bool,
+    pub register: u8,
+    pub nn: u8,
+}
+
+// How a symbol left the reading.
+pub enum Outcome {
+    // More symbols belong to the part.
+    More,
+    // AA always ends the reading.
+    Cut,
+    // QQ is no master address.
+    NoMaster,
+    // ZZ, PB or SB is A9.
+    Unusable,
+    // NN is above 16.
+    TooLong,
+    // A9 in data or CRC with neither 00 nor 01 behind it.
+    BrokenPair,
+    // The part is whole, and its CRC matches or is wrong.
+    Whole(bool),
+}
+
+// The cursor for the next symbol, and the part as far as it is read.
+pub struct Step {
+    pub outcome: Outcome,
+    pub cursor: Cursor,
+    pub part: Telegram,
+}
+
+// What comes behind `read` data bytes.
+fn place_after(read: u8, nn: u8) -> Place
+    ensures { λ r. ⌜ r ≡ placeAfter read nn ⌝ }
+{
+    if read < nn {
+        Place::Data(read)
+    } else {
+        Place::Crc
+    }
+}
+
+impl Cursor {
+    // A master part begins with QQ.
+    pub fn master() -> Cursor
+        ensures { λ r. ⌜ r ≡ masterStart ⌝ }
+    {
+        Cursor {
+            at: 0,
+            place: Place::Qq,
+            opened: false,
+            register: 0,
+            nn: 0,
+        }
+    }
+
+    // An answer begins with NN.
+    pub fn answer() -> Cursor
+        ensures { λ r. ⌜ r ≡ answerStart ⌝ }
+    {
+        Cursor {
+            at: 0,
+            place: Place::Nn,
+            opened: false,
+            register: 0,
+            nn: 0,
+        }
+    }
+
+    // One symbol more of the part.
+    pub fn read(self, part: Telegram, s: u8) -> Step
+        ensures { λ r. ⌜ r ≡ readOne self part s ⌝ }
+    {
+        match symbol::kind_of(s) {
+            Kind::Syn => self.ended(part, Outcome::Cut),
+            Kind::Escape => self.read_escape(part, s),
+            Kind::Count => self.read_other(part, s, true),
+            Kind::Plain => self.read_other(part, s, false),
+        }
+    }
+
+    fn ended(self, part: Telegram, outcome: Outcome) -> Step
+        ensures { λ r. ⌜ r ≡ ended self part outcome ⌝ }
+    {
+        Step {
+            outcome: outcome,
+            cursor: self,
+            part: part,
+        }
+    }
+
+    // The cursor behind a symbol that the CRC covers.
+    fn onward(self, s: u8, place: Place, opened: bool) -> Cursor
+        ensures { λ r. ⌜ r ≡ onward self s place opened ⌝ }
+    {
+        let at = std::num::wrapping_add_u8(self.at, 1);
+        let register = crc::step(self.register, s);
+        Cursor {
+            at: at,
+            place: place,
+            opened: opened,
+            register: register,
+            nn: self.nn,
+        }
+    }
+
+    fn more(self, part: Telegram) -> Step
+        ensures { λ r. ⌜ r ≡ more self part ⌝ }
+    {
+        Step {
+            outcome: Outcome::More,
+            cursor: self,
+            part: part,
+        }
+    }
+
+    // A9 can begin a pair in data and CRC alone; in the place of NN it is a count above 16.
+    fn read_escape(self, part: Telegram, s: u8) -> Step
+        ensures { λ r. ⌜ r ≡ readEscape self part s ⌝ }
+    {
+        let place = self.place;
+        match place {
+            Place::Qq => self.ended(part, Outcome::NoMaster),
+            Place::Zz => self.ended(part, Outcome::Unusable),
+            Place::Pb => self.ended(part, Outcome::Unusable),
+            Place::Sb => self.ended(part, Outcome::Unusable),
+            Place::Nn => self.ended(part, Outcome::TooLong),
+            Place::Data(read) => self.read_data(part, read, s),
+            Place::Crc => self.read_crc(part, s),
+        }
+    }
+
+    // A symbol that is neither SYN nor the escape; `counts`: it is at most 16.
+    fn read_other(self, part: Telegram, s: u8, counts: bool) -> Step
+        ensures { λ r. ⌜ r ≡ readOther self part s counts ⌝ }
+    {
+        let place = self.place;
+        match place {
+            Place::Qq => self.read_qq(part, s),
+            Place::Zz => self.onward(s, Place::Pb, false)
+                .more(Telegram { zz: s, ..part }),
+            Place::Pb => self.onward(s, Place::Sb, false)
+                .more(Telegram { pb: s, ..part }),
+            Place::Sb => self.onward(s, Place::Nn, false)
+                .more(Telegram { sb: s, ..part }),
+            Place::Nn => self.read_nn(part, s, counts),
+            Place::Data(read) => self.read_data(part, read, s),
+            Place::Crc => self.read_crc(part, s),
+        }
+    }
+
+    fn read_qq(self, part: Telegram, s: u8) -> Step
+        ensures { λ r. ⌜ r ≡ readQq self part s ⌝ }
+    {
+        if address::is_master(s) {
+            self.onward(s, Place::Zz, false)
+                .more(Telegram { qq: s, ..part })
+        } else {
+            self.ended(part, Outcome::NoMaster)
+        }
+    }
+
+    fn read_nn(self, part: Telegram, s: u8, counts: bool) -> Step
+        ensures { λ r. ⌜ r ≡ readNn self part s counts ⌝ }
+    {
+        if counts {
+            let c = self.onward(s, place_after(0, s), false);
+            let load = part.load;
+            let counted = Load { nn: s, ..load };
+            Cursor { nn: s, ..c }.more(Telegram {
+                load: counted,
+                ..part
+            })
+        } else {
+            self.ended(part, Outcome::TooLong)
+        }
+    }
+
+    fn read_data(self, part: Telegram, read: u8, s: u8) -> Step
+        ensures { λ r. ⌜ r ≡ readData self part read s ⌝ }
+    {
+        let opened = self.opened;
+        match pair::undo(opened, s) {
+            Undone::Byte(b) => self.read_byte(part, read, s, b),
+            Undone::Opens => self.onward(s, Place::Data(read), true).more(part),
+            Undone::Broken => self.ended(part, Outcome::BrokenPair),
+        }
+    }
+
+    fn read_byte(self, part: Telegram, read: u8, s: u8, b: u8) -> Step
+        ensures { λ r. ⌜ r ≡ readByte self part read s b ⌝ }
+    {
+        if read < 16 {
+            let i = read as usize;
+            let mut load = part.load;
+            load.bytes[i] = b;
+            let nn = self.nn;
+            self.onward(s, place_after(read + 1, nn), false)
+                .more(Telegram { load: load, ..part })
+        } else {
+            self.ended(part, Outcome::TooLong)
+        }
+    }
+
+    // The CRC does not cover itself: the register stays.
+    fn read_crc(self, part: Telegram, s: u8) -> Step
+        ensures { λ r. ⌜ r ≡ readCrc self part s ⌝ }
+    {
+        let opened = self.opened;
+        match pair::undo(opened, s) {
+            Undone::Byte(b) => self.ended(part, Outcome::Whole(b == self.register)),
+            Undone::Opens => {
+                let at = std::num::wrapping_add_u8(self.at, 1);
+                Cursor {
+                    at: at,
+                    opened: true,
+                    ..self
+                }.more(part)
+            }
+            Undone::Broken => self.ended(part, Outcome::BrokenPair),
+        }
+    }
+}
