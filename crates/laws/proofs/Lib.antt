@@ -1,1 +1,3 @@
 pub mod Computed
+pub mod First
+pub mod Lists

@@ -1,2 +1,6 @@
-// Laws that the rooms above share; a crate must have a function, and this one is no part of the bus.
-fn nothing() {}
+// What the rooms above share: where a search found something, and the laws in proofs/.
+
+pub enum Found {
+    At(usize),
+    Missing,
+}

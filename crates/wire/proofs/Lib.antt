@@ -1,3 +1,16 @@
 pub mod Buffer
+pub mod ByPlace
+pub mod Endings
 pub mod Expand
 pub mod Filling
+pub mod Fitting
+pub mod FromNn
+pub mod OneForm
+pub mod OneMore
+pub mod Pairs
+pub mod Reached
+pub mod ReadBack
+pub mod ReadingOn
+pub mod SoFar
+pub mod SymbolKind
+pub mod Symbols

@@ -1,4 +1,7 @@
+pub mod Examples
 pub mod Form
+pub mod Load
 pub mod Pair
 pub mod Reader
+pub mod Reading
 pub mod Symbol

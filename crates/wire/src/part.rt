@@ -1,4 +1,6 @@
 // A master part and an answer as their users have them.
+ghost use mathlib.Core.Path.{_≡_};
+ghost use Rattle.wire.specs.Load.{fitting, loadOf};
 
 // What a part carries: the first `nn` of `bytes`, 16 at most.
 pub struct Load {
@@ -13,4 +15,31 @@ pub struct Telegram {
     pub pb: u8,
     pub sb: u8,
     pub load: Load,
+}
+
+// How many of so many bytes a load has room for.
+fn fitting(len: usize) -> u8
+    ensures { λ r. ⌜ r ≡ fitting len ⌝ }
+{
+    if len < 16 { len as u8 } else { 16 }
+}
+
+impl Load {
+    // The bytes of a slice, as far as there is room.
+    pub fn of(s: &[u8]) -> Load
+        ensures { λ r. ⌜ r ≡ loadOf (now (s .entry)) ⌝ }
+    {
+        let nn = fitting(s.len());
+        let n = nn as usize;
+        let mut bytes = [0u8; 16];
+        let mut i: usize = 0;
+        while i < n {
+            bytes[i] = s[i];
+            i += 1;
+        }
+        Load {
+            nn: nn,
+            bytes: bytes,
+        }
+    }
 }
