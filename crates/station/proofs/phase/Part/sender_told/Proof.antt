@@ -1,0 +1,26 @@
+-- `station::phase::Part::sender_told` meets its contract. Assumes nothing.
+use Rattle.station.specs.Phase.{senderTold}
+use borrow.Author.Needs.{needs}
+use Rattle.station.proofs.phase.Part.sender_told.Statement.{statement}
+use Rattle.station.proofs.phase.Part.sender_told.Tie as tie
+
+enum-told : tie.Need-enum-told
+enum-told c = search needs
+
+enum-told-2 : tie.Need-enum-told-2
+enum-told-2 c = search needs
+
+returns : tie.Need-returns
+unfolding senderTold
+returns c =
+    simp
+    (c .enum-told .given .1)
+
+returns-2 : tie.Need-returns-2
+unfolding senderTold
+returns-2 c =
+    simp
+    (c .enum-told2 .given .1)
+
+pub sender-told-spec : {M : Type 1} → statement M
+sender-told-spec = tie.close (tie.spec enum-told enum-told-2 returns returns-2)

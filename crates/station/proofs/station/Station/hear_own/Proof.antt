@@ -1,0 +1,67 @@
+-- `station::station::Station::hear_own` meets its contract. Assumes nothing.
+use borrow.Author.Tests.{eq-eqb, ne-eqb}
+use Rattle.station.specs.Send.{hearOwn}
+use borrow.Author.Needs.{needs}
+use Rattle.station.proofs.station.Station.hear_own.Statement.{statement}
+use Rattle.station.proofs.station.Station.hear_own.Tie as tie
+
+due-requires : tie.Need-due-requires
+due-requires c κs = search needs
+
+enum-told : tie.Need-enum-told
+enum-told c = search needs
+
+disturbed-requires : tie.Need-disturbed-requires
+disturbed-requires c κs = search needs
+
+enum-known-own : tie.Need-enum-known-own
+enum-known-own c = search needs
+
+sent-requires : tie.Need-sent-requires
+sent-requires c κs = search needs
+
+disturbed-requires-2 : tie.Need-disturbed-requires-2
+disturbed-requires-2 c κs = search needs
+
+returns : tie.Need-returns
+unfolding hearOwn
+returns c =
+    simp (
+      c .disturbed .ensures,
+      c .before .enum-told .given .1,
+      ← c .before .before .before .due .ensures,
+    )
+
+returns-2 : tie.Need-returns-2
+unfolding hearOwn
+returns-2 c =
+    simp (
+      c .sent .ensures,
+      eq-eqb _ _ (c .before .if1 .taken),
+      c .before .before .before .own .given .1,
+      ← c .before .before .before .before .before .due .ensures,
+    )
+
+returns-3 : tie.Need-returns-3
+unfolding hearOwn
+returns-3 c =
+    simp (
+      c .disturbed2 .ensures,
+      ne-eqb _ _ (c .before .if1 .left),
+      c .before .before .before .own .given .1,
+      ← c .before .before .before .before .before .due .ensures,
+    )
+
+pub hear-own-spec : {M : Type 1} → statement M
+hear-own-spec =
+    tie.close
+    (tie.spec
+    due-requires
+    enum-told
+    disturbed-requires
+    enum-known-own
+    sent-requires
+    disturbed-requires-2
+    returns
+    returns-2
+    returns-3)

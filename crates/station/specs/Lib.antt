@@ -1,0 +1,10 @@
+pub mod Events
+pub mod Hear
+pub mod Judge
+pub mod Outbox
+pub mod Phase
+pub mod Read
+pub mod Replies
+pub mod Send
+pub mod Station
+pub mod Turn

@@ -1,0 +1,66 @@
+-- What a slave answers, by PB and SB: 8 entries at most (01, "Answer" and the table's line 12). Assumes nothing.
+use mathlib.Core.Bool.{Bool, true, false, cond}
+use mathlib.Core.List.{List, [], _∷_}
+use Prim.Native.Nat.{ℕ, suc, _+_}
+use lib.Dec.{eqb, ltb}
+use lib.ListN.{getD, set, take, replicate}
+use Rattle.wire.specs.declared.part.Load.{Load}
+use Rattle.station.specs.declared.replies.Reply.{Reply}
+use Rattle.station.specs.declared.replies.ReplyBook.{ReplyBook}
+use Rattle.station.specs.declared.replies.Written.{Written}
+use Rattle.station.specs.declared.replies.Entry.{Entry}
+use Rattle.station.specs.declared.replies.Entry.the-variants.{At, Missing}
+
+abbrev pub replyEntries : ℕ
+replyEntries = 8
+
+-- NN 0
+abbrev pub noReply : Reply
+noReply = record { pb = 0; sb = 0; load = record { nn = 0; bytes = replicate 16 0 } }
+
+unfoldable pub noEntries : ReplyBook
+noEntries = record { entries = replicate replyEntries noReply; held = 0 }
+
+unfoldable pub isFor : Reply → ℕ → ℕ → Bool
+isFor e pb sb = cond (eqb (e .pb) pb) (eqb (e .sb) sb) false
+
+-- the first entry for PB and SB, counted from i
+unfoldable pub entryFrom : ℕ → ℕ → ℕ → List Reply → Entry
+entryFrom i pb sb [] = Missing
+entryFrom i pb sb (e ∷ es) = let later = entryFrom (suc i) pb sb es in cond (isFor e pb sb) (At i) later
+
+-- how many entries there are
+unfoldable pub countIn : ReplyBook → ℕ
+countIn b = cond (ltb (b .held) replyEntries) (b .held) replyEntries
+
+unfoldable pub entryOf : ReplyBook → ℕ → ℕ → Entry
+entryOf b pb sb = entryFrom 0 pb sb (take (countIn b) (b .entries))
+
+unfoldable pub entryAt : ReplyBook → ℕ → Reply
+entryAt b i = getD (b .entries) i noReply
+
+unfoldable pub withEntry : ReplyBook → ℕ → Reply → ReplyBook
+withEntry b i r = record { entries = set (b .entries) i r; held = b .held }
+
+-- an entry more, or nothing changes where there is no room
+unfoldable pub added : ReplyBook → Reply → Written
+added b r =
+    cond (ltb (b .held) replyEntries)
+    (record { taken = true; book = record { entries = set (b .entries) (b .held) r; held = b .held + 1 } })
+    (record { taken = false; book = b })
+
+-- a reply with the same PB and SB replaces the entry
+abbrev pub writtenAt : Entry → ReplyBook → Reply → Written
+writtenAt (At i) b r = record { taken = true; book = withEntry b i r }
+writtenAt Missing b r = added b r
+
+unfoldable pub written : ReplyBook → Reply → Written
+written b r = writtenAt (entryOf b (r .pb) (r .sb)) b r
+
+-- with no entry the answer has NN 0
+abbrev pub loadAt : Entry → ReplyBook → Load
+loadAt (At i) b = entryAt b i .load
+loadAt Missing b = noReply .load
+
+unfoldable pub answerFor : ReplyBook → ℕ → ℕ → Load
+answerFor b pb sb = loadAt (entryOf b pb sb) b

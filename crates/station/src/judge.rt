@@ -1,0 +1,82 @@
+// The reader of a part judges by the next symbol heard (01, "Acknowledgement", "Answer").
+ghost use mathlib.Core.Path.{_≡_};
+ghost use Rattle.station.specs.Judge.{startOf, judges, judgedTaken, handedOut, readAgain};
+use crate::phase::Attempt;
+use crate::phase::Failure;
+use crate::phase::Part;
+use crate::phase::Phase;
+use crate::phase::Told;
+use crate::station::Station;
+use crate::station::Turn;
+use wire::reader::Cursor;
+
+impl Station {
+    pub(crate) fn judge(self, s: u8, part: Part, attempt: Attempt, matched: bool) -> Turn
+        ensures { λ r. ⌜ r ≡ judges self s part attempt matched ⌝ }
+    {
+        if s == Station::ACK {
+            self.judge_taken(part, matched)
+        } else if s == Station::NAK {
+            self.read_again(part, attempt)
+        } else {
+            self.unread(part, Failure::NoAcknowledgement)
+        }
+    }
+
+    // 00 after a wrong CRC hands nothing out.
+    fn judge_taken(self, part: Part, matched: bool) -> Turn
+        ensures { λ r. ⌜ r ≡ judgedTaken self part matched ⌝ }
+    {
+        if matched {
+            self.hand_out(part)
+        } else {
+            self.unread(part, Failure::NoAcknowledgement)
+        }
+    }
+
+    fn hand_out(self, part: Part) -> Turn
+        ensures { λ r. ⌜ r ≡ handedOut self part ⌝ }
+    {
+        match part {
+            Part::MasterPart => {
+                if self.answered() {
+                    self.go(Phase::Owing, Told::Given)
+                } else {
+                    self.go(Phase::Silent, Told::Given)
+                }
+            }
+            Part::AnswerPart => self.go(Phase::Releasing, Told::Answered),
+        }
+    }
+
+    // FF the first time: the part is read again from its first symbol, and checked in full again.
+    fn read_again(self, part: Part, attempt: Attempt) -> Turn
+        ensures { λ r. ⌜ r ≡ readAgain self part attempt ⌝ }
+    {
+        match attempt {
+            Attempt::First => {
+                let start = part.start();
+                self.go(
+                    Phase::Reading {
+                        cursor: start,
+                        part: part,
+                        attempt: Attempt::Again,
+                    },
+                    Told::Silence,
+                )
+            }
+            Attempt::Again => self.unread(part, Failure::TwiceRefused),
+        }
+    }
+}
+
+impl Part {
+    fn start(self) -> Cursor
+        ensures { λ r. ⌜ r ≡ startOf self ⌝ }
+    {
+        match self {
+            Part::MasterPart => Cursor::master(),
+            Part::AnswerPart => Cursor::answer(),
+        }
+    }
+}

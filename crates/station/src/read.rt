@@ -1,0 +1,141 @@
+// The reader of a part: the owner reads an answer, any other station a master part (01, "Reading", "Broadcast").
+ghost use mathlib.Core.Path.{_≡_};
+ghost use Rattle.station.specs.Read.{forAll, answered, isOwn, reads, readOn, addressed, whole, unread};
+use crate::phase::Attempt;
+use crate::phase::Failure;
+use crate::phase::Part;
+use crate::phase::Phase;
+use crate::phase::Told;
+use crate::station::Station;
+use crate::station::Turn;
+use address::Kind;
+use wire::reader::Cursor;
+use wire::reader::Outcome;
+use wire::reader::Place;
+
+impl Station {
+    // Whether the transfer's ZZ is FE.
+    pub(crate) fn for_all(self) -> bool
+        ensures { λ r. ⌜ r ≡ forAll (self .part .zz) ⌝ }
+    {
+        match address::kind_of(self.part.zz) {
+            Kind::Master => false,
+            Kind::Slave => false,
+            Kind::Broadcast => true,
+            Kind::Never => false,
+        }
+    }
+
+    // Whether an answer belongs to the transfer: a part sent to a master address gets none.
+    pub(crate) fn answered(self) -> bool
+        ensures { λ r. ⌜ r ≡ answered (self .part .zz) ⌝ }
+    {
+        if address::is_master(self.part.zz) {
+            false
+        } else {
+            true
+        }
+    }
+
+    // Whether an address is its own; a master has two.
+    pub fn is_own(self, zz: u8) -> bool
+        ensures { λ r. ⌜ r ≡ isOwn self zz ⌝ }
+    {
+        if zz == self.address {
+            true
+        } else if self.master {
+            zz == address::slave_of(self.address)
+        } else {
+            false
+        }
+    }
+
+    // One symbol more of the part that it reads.
+    pub(crate) fn read(self, s: u8, cursor: Cursor, part: Part, attempt: Attempt) -> Turn
+        ensures { λ r. ⌜ r ≡ reads self s cursor part attempt ⌝ }
+    {
+        let so_far = self.part;
+        let step = cursor.read(so_far, s);
+        let read = step.part;
+        let after = Station { part: read, ..self };
+        let outcome = step.outcome;
+        match outcome {
+            Outcome::More => after.read_on(step.cursor, part, attempt),
+            Outcome::Cut => after.unread(part, Failure::SynHeard),
+            Outcome::NoMaster => after.unread(part, Failure::PairBroken),
+            Outcome::Unusable => after.unread(part, Failure::PairBroken),
+            Outcome::TooLong => after.whole(part, attempt, false),
+            Outcome::BrokenPair => after.unread(part, Failure::PairBroken),
+            Outcome::Whole(matched) => after.whole(part, attempt, matched),
+        }
+    }
+
+    // ZZ is tested when it has been read: PB comes next.
+    fn read_on(self, cursor: Cursor, part: Part, attempt: Attempt) -> Turn
+        ensures { λ r. ⌜ r ≡ readOn self cursor part attempt ⌝ }
+    {
+        let on = Phase::Reading {
+            cursor: cursor,
+            part: part,
+            attempt: attempt,
+        };
+        let place = cursor.place;
+        match place {
+            Place::Qq => self.go(on, Told::Silence),
+            Place::Zz => self.go(on, Told::Silence),
+            Place::Pb => self.addressed(on),
+            Place::Sb => self.go(on, Told::Silence),
+            Place::Nn => self.go(on, Told::Silence),
+            Place::Data(_) => self.go(on, Told::Silence),
+            Place::Crc => self.go(on, Told::Silence),
+        }
+    }
+
+    fn addressed(self, on: Phase) -> Turn
+        ensures { λ r. ⌜ r ≡ addressed self on ⌝ }
+    {
+        if self.is_own(self.part.zz) {
+            self.go(on, Told::Silence)
+        } else if self.for_all() {
+            self.go(on, Told::Silence)
+        } else {
+            self.go(Phase::Silent, Told::Silence)
+        }
+    }
+
+    // The part has come to its end. A broadcast is handed out at once; any other part is acknowledged.
+    fn whole(self, part: Part, attempt: Attempt, matched: bool) -> Turn
+        ensures { λ r. ⌜ r ≡ whole self part attempt matched ⌝ }
+    {
+        let judging = Phase::Judging {
+            part: part,
+            attempt: attempt,
+            matched: matched,
+            acknowledged: false,
+        };
+        match part {
+            Part::MasterPart => {
+                if self.for_all() {
+                    if matched {
+                        self.go(Phase::Silent, Told::Given)
+                    } else {
+                        self.go(Phase::Silent, Told::Silence)
+                    }
+                } else {
+                    self.go(judging, Told::Silence)
+                }
+            }
+            Part::AnswerPart => self.go(judging, Told::Silence),
+        }
+    }
+
+    // The reading came to nothing: an owner is told and sends SYN in the next slot, any other station is silent.
+    pub(crate) fn unread(self, part: Part, failure: Failure) -> Turn
+        ensures { λ r. ⌜ r ≡ unread self part failure ⌝ }
+    {
+        match part {
+            Part::MasterPart => self.go(Phase::Silent, Told::Silence),
+            Part::AnswerPart => self.go(Phase::Releasing, Told::Failed(failure)),
+        }
+    }
+}
