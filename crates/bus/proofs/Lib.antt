@@ -1,0 +1,4 @@
+pub mod FirstIs
+pub mod Loops
+pub mod Strides
+pub mod Tens

@@ -1,0 +1,77 @@
+-- `bus::attach::no_such_address` meets its contract. Assumes nothing.
+use Rattle.bus.specs.Attach.{noSuchAddress}
+use borrow.Author.Needs.{needs}
+use Rattle.bus.proofs.attach.no_such_address.Statement.{statement}
+use Rattle.bus.proofs.attach.no_such_address.Tie as tie
+
+kind-of-requires : tie.Need-kind-of-requires
+kind-of-requires c κs = search needs
+
+enum-told : tie.Need-enum-told
+enum-told c = search needs
+
+enum-told-2 : tie.Need-enum-told-2
+enum-told-2 c = search needs
+
+enum-told-3 : tie.Need-enum-told-3
+enum-told-3 c = search needs
+
+enum-told-4 : tie.Need-enum-told-4
+enum-told-4 c = search needs
+
+returns : tie.Need-returns
+unfolding noSuchAddress
+returns c =
+    simp (
+      c .if1 .taken,
+      c .before .enum-told .given .1,
+      ← c .before .before .before .kind-of .ensures,
+    )
+
+returns-2 : tie.Need-returns-2
+unfolding noSuchAddress
+returns-2 c =
+    simp (
+      c .if1 .left,
+      c .before .enum-told .given .1,
+      ← c .before .before .before .kind-of .ensures,
+    )
+
+returns-3 : tie.Need-returns-3
+unfolding noSuchAddress
+returns-3 c =
+    simp (
+      c .enum-told2 .given .1,
+      ← c .before .before .kind-of .ensures,
+    )
+
+returns-4 : tie.Need-returns-4
+unfolding noSuchAddress
+returns-4 c =
+    simp (
+      c .enum-told3 .given .1,
+      ← c .before .before .kind-of .ensures,
+    )
+
+returns-5 : tie.Need-returns-5
+unfolding noSuchAddress
+returns-5 c =
+    simp (
+      c .enum-told4 .given .1,
+      ← c .before .before .kind-of .ensures,
+    )
+
+pub no-such-address-spec : {M : Type 1} → statement M
+no-such-address-spec =
+    tie.close
+    (tie.spec
+    kind-of-requires
+    enum-told
+    enum-told-2
+    enum-told-3
+    enum-told-4
+    returns
+    returns-2
+    returns-3
+    returns-4
+    returns-5)

@@ -1,0 +1,10 @@
+pub mod Attach
+pub mod Bus
+pub mod Events
+pub mod Find
+pub mod Queue
+pub mod Refusal
+pub mod Reply
+pub mod Rest
+pub mod Run
+pub mod Slot

@@ -1,0 +1,74 @@
+-- A telegram is queued: refusals 1, 2, 3, 4, 6, 5 in that order (01, the table). Assumes nothing.
+use mathlib.Core.Bool.{Bool, true, false, cond}
+use mathlib.Core.List.{List}
+use Prim.Native.Nat.{ℕ}
+use lib.Dec.{ltb}
+use lib.ListN.{length}
+use Rattle.laws.specs.declared.Found.{Found}
+use Rattle.laws.specs.declared.Found.the-variants.{At, Missing}
+use Rattle.address.specs.Kind.{kindOf}
+use Rattle.address.specs.declared.Kind as K
+use Rattle.address.specs.declared.Kind.the-variants as kind
+use Rattle.wire.specs.Form.{room, telegramForm}
+use Rattle.wire.specs.Load.{loadOf}
+use Rattle.wire.specs.declared.part.Telegram.{Telegram}
+use Rattle.station.specs.Outbox.{accepted}
+use Rattle.station.specs.Read.{isOwn}
+use Rattle.station.specs.Turn.{withOutbox}
+use Rattle.station.specs.declared.outbox.Accepted.{Accepted}
+use Rattle.station.specs.declared.station.Station.{Station}
+use Rattle.station.specs.declared.station.Turn.{Turn}
+use Rattle.bus.specs.declared.bus.Bus.{Bus}
+use Rattle.bus.specs.declared.bus.Answer.{Answer}
+use Rattle.bus.specs.declared.find.Query.the-variants.{Master}
+use Rattle.bus.specs.declared.refusal.Refusal.the-variants.{NoMaster, NoTarget, NoCommand, TooMuchData, TooManySymbols, OutboxFull}
+use Rattle.bus.specs.Bus.{turnAt, withTurn, refusedBy, done}
+use Rattle.bus.specs.Find.{firstOf}
+
+abbrev pub isNever : K.Kind → Bool
+isNever kind.Master = false
+isNever kind.Slave = false
+isNever kind.Broadcast = false
+isNever kind.Never = true
+
+-- A9 or AA
+unfoldable pub unusable : ℕ → Bool
+unusable a = isNever (kindOf a)
+
+-- 2: ZZ is A9, AA, or the source's own master or slave address
+unfoldable pub noTarget : Station → ℕ → Bool
+noTarget s zz = cond (unusable zz) true (isOwn s zz)
+
+-- 3: PB or SB is A9 or AA
+unfoldable pub noCommand : ℕ → ℕ → Bool
+noCommand pb sb = cond (unusable pb) true (unusable sb)
+
+-- 5: 4 telegrams held, one in transfer included; else it is held behind them
+abbrev pub holdsAs : Accepted → Bus → ℕ → Turn → Answer
+holdsAs a b i t =
+    cond (a .taken)
+    (done (withTurn b i (record { station = withOutbox (t .station) (t .station .phase) (a .outbox); told = t .told })))
+    (refusedBy b OutboxFull)
+
+unfoldable pub holds : Bus → ℕ → Telegram → Answer
+holds b i t = holdsAs (accepted (turnAt b i .station .outbox) t) b i (turnAt b i)
+
+-- 6: the expanded part exceeds 44 symbols
+unfoldable pub queuesTelegram : Bus → ℕ → Telegram → Answer
+queuesTelegram b i t = cond (ltb room (length (telegramForm t))) (refusedBy b TooManySymbols) (holds b i t)
+
+-- 4: more than 16 data bytes
+unfoldable pub queuesFrom : Bus → ℕ → ℕ → ℕ → ℕ → List ℕ → Answer
+queuesFrom b i zz pb sb bytes =
+    cond (noTarget (turnAt b i .station) zz) (refusedBy b NoTarget)
+    (cond (noCommand pb sb) (refusedBy b NoCommand)
+    (cond (ltb 16 (length bytes)) (refusedBy b TooMuchData)
+    (queuesTelegram b i (record { qq = turnAt b i .station .address; zz = zz; pb = pb; sb = sb; load = loadOf bytes }))))
+
+-- 1: source is no attached master
+abbrev pub queuesAt : Found → Bus → ℕ → ℕ → ℕ → List ℕ → Answer
+queuesAt (At i) b zz pb sb bytes = queuesFrom b i zz pb sb bytes
+queuesAt Missing b zz pb sb bytes = refusedBy b NoMaster
+
+unfoldable pub queues : Bus → ℕ → ℕ → ℕ → ℕ → List ℕ → Answer
+queues b qq zz pb sb bytes = queuesAt (firstOf b (Master qq)) b zz pb sb bytes

@@ -1,0 +1,18 @@
+-- 01's number of each refusal ("When a call is turned down"). Assumes nothing.
+use Prim.Native.Nat.{ℕ}
+use Rattle.bus.specs.declared.refusal.Refusal.{Refusal}
+use Rattle.bus.specs.declared.refusal.Refusal.the-variants.{Running, NoSuchAddress, InUse, NoRoom, NoMaster, NoTarget, NoSlave, NoCommand, TooMuchData, TooManySymbols, OutboxFull, BookFull}
+
+abbrev pub refusalNumber : Refusal → ℕ
+refusalNumber Running = 7
+refusalNumber NoSuchAddress = 8
+refusalNumber InUse = 9
+refusalNumber NoRoom = 10
+refusalNumber NoMaster = 1
+refusalNumber NoTarget = 2
+refusalNumber NoSlave = 11
+refusalNumber NoCommand = 3
+refusalNumber TooMuchData = 4
+refusalNumber TooManySymbols = 6
+refusalNumber OutboxFull = 5
+refusalNumber BookFull = 12

@@ -1,0 +1,10 @@
+// Up to 32 stations on one wire: the calls of its users, the generator, a slot, and a run of slots.
+mod attach;
+pub mod bus;
+pub mod find;
+mod queue;
+pub mod refusal;
+mod reply;
+mod rest;
+pub mod run;
+mod slot;
