@@ -1,1 +1,14 @@
+pub mod Aa
+pub mod AfterSyn
+pub mod AnswerPlace
+pub mod Book
+pub mod Frame
+pub mod HandedOut
+pub mod Moves
+pub mod Ownership
+pub mod Possible
+pub mod Saying
 pub mod Search
+pub mod SilentStation
+pub mod Turned
+pub mod Waiting
