@@ -1,4 +1,14 @@
+pub mod DoneChanges
+pub mod EventsTold
+pub mod ExamplesHold
 pub mod FirstIs
+pub mod Generator
 pub mod Loops
+pub mod Reflects
+pub mod RefusedAttach
+pub mod RefusedChangesNothing
+pub mod RefusedQueue
+pub mod RefusedReply
+pub mod SlotNumber
 pub mod Strides
 pub mod Tens

@@ -1,6 +1,8 @@
 pub mod Attach
 pub mod Bus
+pub mod Conditions
 pub mod Events
+pub mod Examples
 pub mod Find
 pub mod Queue
 pub mod Refusal

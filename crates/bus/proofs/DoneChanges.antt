@@ -1,0 +1,180 @@
+-- A call that is done changes only what it says. Assumes nothing.
+use mathlib.Core.Path.{_≡_, refl, ap, subst, _∙_}
+use mathlib.Core.Bool.{Bool, true, false, cond, true≢false, false≢true}
+use mathlib.Core.List.{List}
+use mathlib.Core.Logic.{_≢_}
+use Prim.Native.Nat.{ℕ, _+_, _<_}
+use borrow.Author.Tests.{ltb-true}
+use lib.Dec.{ltb}
+use lib.ListN.{length, set}
+use lib.Seq.{getD-set-other}
+use Rattle.laws.specs.declared.Found.{Found}
+use Rattle.laws.specs.declared.Found.the-variants.{At, Missing}
+use Rattle.wire.specs.Form.{room, telegramForm}
+use Rattle.wire.specs.Load.{loadOf}
+use Rattle.wire.specs.declared.part.Telegram.{Telegram}
+use Rattle.station.specs.Outbox.{accepted}
+use Rattle.station.specs.Replies.{written}
+use Rattle.station.specs.Turn.{withOutbox}
+use Rattle.station.specs.declared.outbox.Outbox.{Outbox}
+use Rattle.station.specs.declared.replies.Reply.{Reply}
+use Rattle.station.specs.declared.replies.ReplyBook.{ReplyBook}
+use Rattle.station.specs.declared.station.Turn.{Turn}
+use Rattle.bus.specs.declared.bus.Bus.{Bus}
+use Rattle.bus.specs.declared.bus.Answer.{Answer}
+use Rattle.bus.specs.declared.find.Query.the-variants.{Master, Slave}
+use Rattle.bus.specs.declared.refusal.Refusal.{Refusal}
+use Rattle.bus.specs.declared.refusal.Verdict.{Verdict}
+use Rattle.bus.specs.declared.refusal.Verdict.the-variants.{Done, Refused}
+use Rattle.bus.specs.Attach.{newcomer, noSuchAddress, occupied, takesSeat, attaches}
+use Rattle.bus.specs.Bus.{seats, unseated, attachedTurns, turnAt, withTurn, refusedBy, done}
+use Rattle.bus.specs.Conditions.{First, MasterAt, SlaveAt}
+use Rattle.bus.specs.Find.{firstOf}
+use Rattle.bus.specs.Queue.{noTarget, noCommand, holds, queuesTelegram, queuesFrom, queuesAt, queues}
+use Rattle.bus.specs.Reply.{withReplies, writes, repliesFrom, repliesAt, replies}
+use Rattle.bus.proofs.Reflects.{first-holds}
+use Rattle.bus.proofs.RefusedQueue.{turn-found, master-reflects}
+use Rattle.bus.proofs.RefusedReply.{slave-reflects}
+
+abbrev isDone : Verdict → Bool
+isDone Done = true
+isDone (Refused r) = false
+
+not-done : {A : Type 0} (b : Bus) (r : Refusal) → refusedBy b r .verdict ≡ Done → A
+unfolding refusedBy
+not-done b r e = absurd (false≢true (ap isDone e))
+
+-- a line of the table that does not hold is passed
+passed : (t : Bool) (b : Bus) (r : Refusal) (y : Answer) → cond t (refusedBy b r) y .verdict ≡ Done
+    → (y .verdict ≡ Done) × (cond t (refusedBy b r) y .bus ≡ y .bus)
+passed true b r y e = not-done b r e
+passed false b r y e = (e, refl)
+
+-- the last line, which is not given where its test passes
+taken-last : (t : Bool) (b c : Bus) (r : Refusal) → cond t (done c) (refusedBy b r) .verdict ≡ Done
+    → (t ≡ true) × (cond t (done c) (refusedBy b r) .bus ≡ c)
+unfolding done
+taken-last true b c r e = (refl, refl)
+taken-last false b c r e = not-done b r e
+
+-- ---- attach
+
+-- there was a seat; the newcomer takes the one behind the attached stations, and is counted; everything else is as it was
+pub record Seated (b : Bus) (a : ℕ) (master : Bool) (c : Bus) : Type 0 where
+  pub room : b .count < seats
+  pub turns : c .turns ≡ set (b .turns) (b .count) (newcomer a master)
+  pub count : c .count ≡ b .count + 1
+  pub slot : c .slot ≡ b .slot
+  pub ran : c .ran ≡ b .ran
+  pub quiet : c .quiet ≡ b .quiet
+
+pub attach-done : (b : Bus) (a : ℕ) (master : Bool) → attaches b a master .verdict ≡ Done → Seated b a master (attaches b a master .bus)
+unfolding attaches takesSeat
+attach-done b a master e =
+    let p = passed (b .ran) b _ _ e in
+    let q = passed (noSuchAddress a master) b _ _ (p .0) in
+    let r = passed (occupied b a master) b _ _ (q .0) in
+    let s = taken-last (ltb (b .count) seats) b _ _ (r .0) in
+    let same = p .1 ∙ q .1 ∙ r .1 ∙ s .1 in
+    record {
+      room = ltb-true (b .count) seats (s .0);
+      turns = ap (λ (x : Bus). x .turns) same;
+      count = ap (λ (x : Bus). x .count) same;
+      slot = ap (λ (x : Bus). x .slot) same;
+      ran = ap (λ (x : Bus). x .ran) same;
+      quiet = ap (λ (x : Bus). x .quiet) same;
+    }
+
+-- ---- queue and reply
+
+-- one station's turn is t, and everything else is as it was
+pub record OneTurn (b : Bus) (i : ℕ) (t : Turn) (c : Bus) : Type 0 where
+  pub here : c .turns ≡ set (b .turns) i t
+  pub others : (j : ℕ) → j ≢ i → turnAt c j ≡ turnAt b j
+  pub count : c .count ≡ b .count
+  pub slot : c .slot ≡ b .slot
+  pub ran : c .ran ≡ b .ran
+  pub quiet : c .quiet ≡ b .quiet
+
+one-turn : (b c : Bus) (i : ℕ) (t : Turn) → c ≡ withTurn b i t → OneTurn b i t c
+unfolding withTurn turnAt
+one-turn b c i t same =
+    record {
+      here = ap (λ (x : Bus). x .turns) same;
+      others = λ j h. ap (λ (x : Bus). turnAt x j) same ∙ getD-set-other (b .turns) i j t unseated h;
+      count = ap (λ (x : Bus). x .count) same;
+      slot = ap (λ (x : Bus). x .slot) same;
+      ran = ap (λ (x : Bus). x .ran) same;
+      quiet = ap (λ (x : Bus). x .quiet) same;
+    }
+
+-- a turn with another outbox, or another reply book
+abbrev pub holding : Turn → Outbox → Turn
+holding t o = record { station = withOutbox (t .station) (t .station .phase) o; told = t .told }
+
+abbrev pub answering : Turn → ReplyBook → Turn
+answering t r = record { station = withReplies (t .station) r; told = t .told }
+
+-- the source, at place i, holds the telegram behind the others; everything else is as it was
+pub record Queued (b : Bus) (qq : ℕ) (t : Telegram) (c : Bus) : Type 0 where
+  pub place : ℕ
+  pub source : First (MasterAt qq) (turnAt b place) (attachedTurns b)
+  pub accepts : accepted (turnAt b place .station .outbox) t .taken ≡ true
+  pub changed : OneTurn b place (holding (turnAt b place) (accepted (turnAt b place .station .outbox) t .outbox)) c
+
+pub queue-done : (b : Bus) (qq zz pb sb : ℕ) (bytes : List ℕ) → queues b qq zz pb sb bytes .verdict ≡ Done
+    → Queued b qq (record { qq = qq; zz = zz; pb = pb; sb = sb; load = loadOf bytes }) (queues b qq zz pb sb bytes .bus)
+unfolding queues queuesFrom queuesTelegram holds
+queue-done b qq zz pb sb bytes e = go (firstOf b (Master qq)) refl e
+  where
+    telegram : ℕ → Telegram
+    telegram a = record { qq = a; zz = zz; pb = pb; sb = sb; load = loadOf bytes }
+    go : (f : Found) → firstOf b (Master qq) ≡ f → queuesAt f b zz pb sb bytes .verdict ≡ Done
+        → Queued b qq (telegram qq) (queuesAt f b zz pb sb bytes .bus)
+    go (At i) found e =
+        let source = turn-found (MasterAt qq) (Master qq) (master-reflects qq) b i found in
+        let own = first-holds source .1 in
+        let p = passed (noTarget (turnAt b i .station) zz) b _ _ e in
+        let q = passed (noCommand pb sb) b _ _ (p .0) in
+        let r = passed (ltb 16 (length bytes)) b _ _ (q .0) in
+        let s = passed (ltb room (length (telegramForm (telegram (turnAt b i .station .address))))) b _ _ (r .0) in
+        let t = taken-last (accepted (turnAt b i .station .outbox) (telegram (turnAt b i .station .address)) .taken) b _ _ (s .0) in
+        record {
+          place = i;
+          source = source;
+          accepts = rw own at (t .0);
+          changed =
+            one-turn b _ i _
+            (subst (λ (a : ℕ). queuesFrom b i zz pb sb bytes .bus ≡ withTurn b i (holding (turnAt b i) (accepted (turnAt b i .station .outbox) (telegram a) .outbox)))
+            own
+            (p .1 ∙ q .1 ∙ r .1 ∙ s .1 ∙ t .1));
+        }
+    go Missing found e = not-done b _ e
+
+-- the slave, at place i, has the reply in its book; everything else is as it was
+pub record Replied (b : Bus) (slave : ℕ) (r : Reply) (c : Bus) : Type 0 where
+  pub place : ℕ
+  pub station : First (SlaveAt slave) (turnAt b place) (attachedTurns b)
+  pub accepts : written (turnAt b place .station .replies) r .taken ≡ true
+  pub changed : OneTurn b place (answering (turnAt b place) (written (turnAt b place .station .replies) r .book)) c
+
+pub reply-done : (b : Bus) (slave pb sb : ℕ) (bytes : List ℕ) → replies b slave pb sb bytes .verdict ≡ Done
+    → Replied b slave (record { pb = pb; sb = sb; load = loadOf bytes }) (replies b slave pb sb bytes .bus)
+unfolding replies repliesFrom writes
+reply-done b slave pb sb bytes e = go (firstOf b (Slave slave)) refl e
+  where
+    given : Reply
+    given = record { pb = pb; sb = sb; load = loadOf bytes }
+    go : (f : Found) → firstOf b (Slave slave) ≡ f → repliesAt f b pb sb bytes .verdict ≡ Done
+        → Replied b slave given (repliesAt f b pb sb bytes .bus)
+    go (At i) found e =
+        let p = passed (noCommand pb sb) b _ _ e in
+        let q = passed (ltb 16 (length bytes)) b _ _ (p .0) in
+        let t = taken-last (written (turnAt b i .station .replies) given .taken) b _ _ (q .0) in
+        record {
+          place = i;
+          station = turn-found (SlaveAt slave) (Slave slave) (slave-reflects slave) b i found;
+          accepts = t .0;
+          changed = one-turn b _ i _ (p .1 ∙ q .1 ∙ t .1);
+        }
+    go Missing found e = not-done b _ e
