@@ -129,6 +129,7 @@ queue-done b qq zz pb sb bytes e = go (firstOf b (Master qq)) refl e
   where
     telegram : ℕ → Telegram
     telegram a = record { qq = a; zz = zz; pb = pb; sb = sb; load = loadOf bytes }
+
     go : (f : Found) → firstOf b (Master qq) ≡ f → queuesAt f b zz pb sb bytes .verdict ≡ Done
         → Queued b qq (telegram qq) (queuesAt f b zz pb sb bytes .bus)
     go (At i) found e =
@@ -144,10 +145,10 @@ queue-done b qq zz pb sb bytes e = go (firstOf b (Master qq)) refl e
           source = source;
           accepts = rw own at (t .0);
           changed =
-            one-turn b _ i _
-            (subst (λ (a : ℕ). queuesFrom b i zz pb sb bytes .bus ≡ withTurn b i (holding (turnAt b i) (accepted (turnAt b i .station .outbox) (telegram a) .outbox)))
-            own
-            (p .1 ∙ q .1 ∙ r .1 ∙ s .1 ∙ t .1));
+              one-turn b _ i _
+              (subst (λ (a : ℕ). queuesFrom b i zz pb sb bytes .bus ≡ withTurn b i (holding (turnAt b i) (accepted (turnAt b i .station .outbox) (telegram a) .outbox)))
+              own
+              (p .1 ∙ q .1 ∙ r .1 ∙ s .1 ∙ t .1));
         }
     go Missing found e = not-done b _ e
 
@@ -165,6 +166,7 @@ reply-done b slave pb sb bytes e = go (firstOf b (Slave slave)) refl e
   where
     given : Reply
     given = record { pb = pb; sb = sb; load = loadOf bytes }
+
     go : (f : Found) → firstOf b (Slave slave) ≡ f → repliesAt f b pb sb bytes .verdict ≡ Done
         → Replied b slave given (repliesAt f b pb sb bytes .bus)
     go (At i) found e =

@@ -82,9 +82,9 @@ pub told-exactly-when : (b : Bus) → (thereIs b Addressee ≡ false) ↔ (event
 unfolding thereIs firstOf events
 told-exactly-when b = (
   λ e.
-    let u = missing-each (meets Addressee) 0 (attachedTurns b) (missing _ e) in
-    rw (no-lines false u, no-lines true u),
+      let u = missing-each (meets Addressee) 0 (attachedTurns b) (missing _ e) in
+      rw (no-lines false u, no-lines true u),
   λ e.
-    let p = nil-parts (linesOf false (attachedTurns b)) (linesOf true (attachedTurns b)) e in
-    ap isFound (each-missing (meets Addressee) 0 (nobody-told (attachedTurns b) (p .0) (p .1))),
+      let p = nil-parts (linesOf false (attachedTurns b)) (linesOf true (attachedTurns b)) e in
+      ap isFound (each-missing (meets Addressee) 0 (nobody-told (attachedTurns b) (p .0) (p .1))),
 )

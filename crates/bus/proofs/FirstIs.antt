@@ -65,6 +65,7 @@ found-from {A} test d i k (a ∷ l) e = go (test a) refl (found-from test d (suc
         unfound : (m : ℕ) → m < suc j → test (getD (a ∷ l) m d) ≡ false
         unfound zero h = q
         unfound (suc m) h = f .before m (omega arith)
+
     go : (t : Bool) → test a ≡ t → (firstFrom test (suc i) l ≡ At k → (j : ℕ) × (k ≡ suc i + j) × FoundAt test l d j)
         → cond t (At i) (firstFrom test (suc i) l) ≡ At k → (j : ℕ) × (k ≡ i + j) × FoundAt test (a ∷ l) d j
     go true q on e =

@@ -43,7 +43,7 @@ unfolding noSuchAddress kindOf
 wrong-reflects a true = wrong-master (isMaster a) (eqb a 0xFE) (eqb a 0xAA || eqb a 0xA9)
 wrong-reflects a false =
     let r = or-reflects (isMaster a) _ (itself (isMaster a))
-      (or-reflects (eqb a 0xFE) _ (equal a 0xFE) (or-reflects (eqb a 0xAA) _ (equal a 0xAA) (equal a 0xA9))) in
+    (or-reflects (eqb a 0xFE) _ (equal a 0xFE) (or-reflects (eqb a 0xAA) _ (equal a 0xAA) (equal a 0xA9))) in
     rw (wrong-slave (isMaster a) (eqb a 0xFE) (eqb a 0xAA) (eqb a 0xA9))
     (λ e. table (r .0 e), λ w. r .1 (tests w))
   where
@@ -52,6 +52,7 @@ wrong-reflects a false =
     table (inr (inl f)) = inr (inr (inl f))
     table (inr (inr (inl x))) = inr (inl x)
     table (inr (inr (inr y))) = inl y
+
     tests : WrongAddress a false → (isMaster a ≡ true) ⊎ (a ≡ 0xFE) ⊎ (a ≡ 0xAA) ⊎ (a ≡ 0xA9)
     tests (inl y) = inr (inr (inr y))
     tests (inr (inl x)) = inr (inr (inl x))

@@ -58,7 +58,7 @@ unusable-reflects : (a : ℕ) → Reflects (unusable a) (Forbidden a)
 unfolding unusable kindOf
 unusable-reflects a = (
   λ e. ⊎-elim (λ x. inl (eqb-true a 0xA9 x)) (λ y. inr (eqb-true a 0xAA y))
-    (never-is (isMaster a) (eqb a 0xFE) (eqb a 0xAA) (eqb a 0xA9) e),
+      (never-is (isMaster a) (eqb a 0xFE) (eqb a 0xAA) (eqb a 0xA9) e),
   ⊎-elim (λ x. ap unusable x ∙ unusable-A9) (λ y. ap unusable y ∙ unusable-AA),
 )
 
@@ -136,11 +136,11 @@ module _ (b : Bus) (qq zz pb sb : ℕ) (bytes : List ℕ) where
           → (numberGiven (queuesAt f b zz pb sb bytes) ≡ 1) ↔ NoSource b qq
       go (At i) e r = (
         λ n. absurd
-          (not-number (noTarget (turnAt b i .station) zz) 2 _ 1 (omega arith)
-          (not-number (noCommand pb sb) 3 _ 1 (omega arith)
-          (not-number (ltb 16 (length bytes)) 4 _ 1 (omega arith)
-          (not-number (tooLong i) 6 _ 1 (omega arith) (not-number (roomy i) 0 5 1 (omega arith) (omega arith)))))
-          (sym (queue-number i) ∙ n)),
+            (not-number (noTarget (turnAt b i .station) zz) 2 _ 1 (omega arith)
+            (not-number (noCommand pb sb) 3 _ 1 (omega arith)
+            (not-number (ltb 16 (length bytes)) 4 _ 1 (omega arith)
+            (not-number (tooLong i) 6 _ 1 (omega arith) (not-number (roomy i) 0 5 1 (omega arith) (omega arith)))))
+            (sym (queue-number i) ∙ n)),
         λ n. absurd (n (r .0 (ap isFound e))),
       )
       go Missing e r = (λ n. refuses _ r (ap isFound e), λ n. refl)
@@ -170,7 +170,7 @@ module _ (b : Bus) (qq zz pb sb : ℕ) (bytes : List ℕ) where
   -- behind 2
   after-target : {D : Type 0} (n : ℕ) → 1 ≢ n → 2 ≢ n
       → ((i : ℕ) → First (MasterAt qq) (turnAt b i) (attachedTurns b)
-        → (cond (noCommand pb sb) 3 (cond (ltb 16 (length bytes)) 4 (cond (tooLong i) 6 (cond (roomy i) 0 5))) ≡ n) ↔ D)
+      → (cond (noCommand pb sb) 3 (cond (ltb 16 (length bytes)) 4 (cond (tooLong i) 6 (cond (roomy i) 0 5))) ≡ n) ↔ D)
       → (given ≡ n) ↔ Unless (NoSource b qq) (Unless (WrongTarget qq zz) D)
   after-target n h k on = after-source n h
       (λ i s. earlier-line (noTarget (turnAt b i .station) zz) (target-reflects qq zz (turnAt b i) (first-holds s)) 2 n _ k (on i s))

@@ -9,14 +9,12 @@ use native.Mathlib.Omega.{arith}
 use borrow.Author.Tests.{ltb-true, ltb-false}
 use lib.Dec.{eqb, ltb}
 use lib.ListN.{length, take}
-use Rattle.laws.specs.First.{isFound}
+use Rattle.laws.specs.First.{firstFrom, isFound}
 use Rattle.laws.specs.declared.Found.{Found}
 use Rattle.laws.specs.declared.Found.the-variants.{At, Missing}
 use Rattle.address.specs.Master.{slaveOf}
 use Rattle.wire.specs.Load.{loadOf}
-use Rattle.station.specs.Replies.{replyEntries, isFor, entryFrom, countIn, entryOf, added, writtenAt, written}
-use Rattle.station.specs.declared.replies.Entry.{Entry}
-use Rattle.station.specs.declared.replies.Entry.the-variants as entry
+use Rattle.station.specs.Replies.{replyEntries, isFor, countIn, entryOf, added, writtenAt, written}
 use Rattle.station.specs.declared.replies.Reply.{Reply}
 use Rattle.station.specs.declared.replies.ReplyBook.{ReplyBook}
 use Rattle.station.specs.declared.station.Turn.{Turn}
@@ -46,18 +44,14 @@ slave-reflects a t = go (t .station .master) refl
         (λ x. inl (e, r .0 x), ⊎-elim (λ p. r .1 (p .1)) (λ p. absurd (false≢true (sym e ∙ p .0))))
 
 -- an entry is found
-abbrev isEntry : Entry → Bool
-isEntry (entry.At i) = true
-isEntry entry.Missing = false
-
-entry-reflects : (pb sb i : ℕ) (l : List Reply) → Reflects (isEntry (entryFrom i pb sb l)) (Any (EntryFor pb sb) l)
-unfolding entryFrom isFor
+entry-reflects : (pb sb i : ℕ) (l : List Reply) → Reflects (isFound (firstFrom (λ e. isFor e pb sb) i l)) (Any (EntryFor pb sb) l)
+unfolding firstFrom isFor
 entry-reflects pb sb i [] = (λ e. absurd (false≢true e), λ q. absurd (omega (arith, any-some q)))
 entry-reflects pb sb i (e ∷ l) =
     go (isFor e pb sb) (and-reflects (eqb (e .pb) pb) _ (equal (e .pb) pb) (equal (e .sb) sb)) (entry-reflects pb sb (suc i) l)
   where
-    go : (t : Bool) → Reflects t (EntryFor pb sb e) → Reflects (isEntry (entryFrom (suc i) pb sb l)) (Any (EntryFor pb sb) l)
-        → Reflects (isEntry (cond t (entry.At i) (entryFrom (suc i) pb sb l))) (Any (EntryFor pb sb) (e ∷ l))
+    go : (t : Bool) → Reflects t (EntryFor pb sb e) → Reflects (isFound (firstFrom (λ e. isFor e pb sb) (suc i) l)) (Any (EntryFor pb sb) l)
+        → Reflects (isFound (cond t (At i) (firstFrom (λ e. isFor e pb sb) (suc i) l))) (Any (EntryFor pb sb) (e ∷ l))
     go true q on = (λ x. here (q .0 refl), λ s. refl)
     go false q on = (λ x. there (on .0 x), λ s. on .1 (any-tail (refuses false q refl) s))
 
@@ -66,17 +60,18 @@ full : (book : ReplyBook) (r : Reply)
     → (written book r .taken ≡ false) ↔ ((replyEntries ≤ book .held) × (HasEntry book (r .pb) (r .sb) → ⊥))
 unfolding written entryOf added
 full book r =
-    go (entryFrom 0 (r .pb) (r .sb) (take (countIn book) (book .entries)))
+    go (firstFrom (λ e. isFor e (r .pb) (r .sb)) 0 (take (countIn book) (book .entries)))
     (entry-reflects (r .pb) (r .sb) 0 (take (countIn book) (book .entries)))
   where
     more : (t : Bool) → ltb (book .held) replyEntries ≡ t → (HasEntry book (r .pb) (r .sb) → ⊥)
         → (added book r .taken ≡ false) ↔ ((replyEntries ≤ book .held) × (HasEntry book (r .pb) (r .sb) → ⊥))
     more true e n = rw e (λ x. absurd (true≢false x), λ h. absurd (omega (arith, h .0, ltb-true (book .held) replyEntries e)))
     more false e n = rw e (λ x. (ltb-false (book .held) replyEntries e, n), λ h. refl)
-    go : (f : Entry) → Reflects (isEntry f) (HasEntry book (r .pb) (r .sb))
+
+    go : (f : Found) → Reflects (isFound f) (HasEntry book (r .pb) (r .sb))
         → (writtenAt f book r .taken ≡ false) ↔ ((replyEntries ≤ book .held) × (HasEntry book (r .pb) (r .sb) → ⊥))
-    go (entry.At i) q = (λ x. absurd (true≢false x), λ h. absurd (h .1 (q .0 refl)))
-    go entry.Missing q = more (ltb (book .held) replyEntries) refl (refuses false q refl)
+    go (At i) q = (λ x. absurd (true≢false x), λ h. absurd (h .1 (q .0 refl)))
+    go Missing q = more (ltb (book .held) replyEntries) refl (refuses false q refl)
 
 -- ---- the lines
 
@@ -107,9 +102,9 @@ module _ (b : Bus) (slave pb sb : ℕ) (bytes : List ℕ) where
           → (numberGiven (repliesAt f b pb sb bytes) ≡ 11) ↔ NoSlaveThere b slave
       go (At i) e r = (
         λ n. absurd
-          (not-number (noCommand pb sb) 3 _ 11 (omega arith)
-          (not-number (ltb 16 (length bytes)) 4 _ 11 (omega arith) (not-number (roomy i) 0 12 11 (omega arith) (omega arith)))
-          (sym (reply-number i) ∙ n)),
+            (not-number (noCommand pb sb) 3 _ 11 (omega arith)
+            (not-number (ltb 16 (length bytes)) 4 _ 11 (omega arith) (not-number (roomy i) 0 12 11 (omega arith) (omega arith)))
+            (sym (reply-number i) ∙ n)),
         λ n. absurd (n (r .0 (ap isFound e))),
       )
       go Missing e r = (λ n. refuses _ r (ap isFound e), λ n. refl)

@@ -15,9 +15,10 @@ use Rattle.wire.specs.declared.part.Load.{Load}
 use Rattle.station.specs.declared.replies.Reply.{Reply}
 use Rattle.station.specs.declared.replies.ReplyBook.{ReplyBook}
 use Rattle.station.specs.declared.replies.Written.{Written}
-use Rattle.station.specs.declared.replies.Entry.{Entry}
-use Rattle.station.specs.declared.replies.Entry.the-variants.{At, Missing}
-use Rattle.station.specs.Replies.{replyEntries, noReply, noEntries, isFor, entryFrom, countIn, entryOf, entryAt, withEntry, added, writtenAt, written, loadAt, answerFor}
+use Rattle.laws.specs.First.{firstFrom}
+use Rattle.laws.specs.declared.Found.{Found}
+use Rattle.laws.specs.declared.Found.the-variants.{At, Missing}
+use Rattle.station.specs.Replies.{replyEntries, noReply, noEntries, isFor, countIn, entryOf, entryAt, withEntry, added, writtenAt, written, loadAt, answerFor}
 
 -- an array of 8, and at most 8 entries
 pub record Filed (b : ReplyBook) : Type 0 where
@@ -38,7 +39,7 @@ module _ (pb sb : ℕ) where
     none : None []
     past : {e : Reply} {es : List Reply} → isFor e pb sb ≡ false → None es → None (e ∷ es)
 
-  data Searched (k : ℕ) (es : List Reply) : Entry → Type 0 where
+  data Searched (k : ℕ) (es : List Reply) : Found → Type 0 where
     found : {i j : ℕ} → i ≡ k + j → First es j → Searched k es (At i)
     missed : None es → Searched k es Missing
 
@@ -46,19 +47,19 @@ module _ (pb sb : ℕ) where
   loadIn [] = noReply .load
   loadIn (e ∷ es) = cond (isFor e pb sb) (e .load) (loadIn es)
 
-  passing : (k : ℕ) (e : Reply) (es : List Reply) (n : Entry) → isFor e pb sb ≡ false → Searched (suc k) es n → Searched k (e ∷ es) n
+  passing : (k : ℕ) (e : Reply) (es : List Reply) (n : Found) → isFor e pb sb ≡ false → Searched (suc k) es n → Searched k (e ∷ es) n
   passing k e es n f (found {j = j} i w) = found {j = suc j} (i ∙ omega arith) (later f w)
   passing k e es n f (missed w) = missed (past f w)
 
-  search-in : (k : ℕ) (es : List Reply) → Searched k es (entryFrom k pb sb es)
-  unfolding entryFrom
+  search-in : (k : ℕ) (es : List Reply) → Searched k es (firstFrom (λ e. isFor e pb sb) k es)
+  unfolding firstFrom
   search-in k [] = missed none
   search-in k (e ∷ es) = by-test (isFor e pb sb) refl (search-in (suc k) es)
     where
-      by-test : (t : Bool) → isFor e pb sb ≡ t → Searched (suc k) es (entryFrom (suc k) pb sb es)
-          → Searched k (e ∷ es) (cond t (At k) (entryFrom (suc k) pb sb es))
+      by-test : (t : Bool) → isFor e pb sb ≡ t → Searched (suc k) es (firstFrom (λ e. isFor e pb sb) (suc k) es)
+          → Searched k (e ∷ es) (cond t (At k) (firstFrom (λ e. isFor e pb sb) (suc k) es))
       by-test true f w = found {i = k} {j = zero} (omega arith) (here f)
-      by-test false f w = passing k e es (entryFrom (suc k) pb sb es) f w
+      by-test false f w = passing k e es (firstFrom (λ e. isFor e pb sb) (suc k) es) f w
 
   first-within : {es : List Reply} {j : ℕ} → First es j → j < length es
   first-within (here f) = omega arith
@@ -115,7 +116,7 @@ set-other r pb sb pb′ sb′ t n (later {e} f w) =
     ap (λ (l : Load). cond (isFor e pb′ sb′) (e .load) l) (set-other r pb sb pb′ sb′ t n w)
 
 -- how a reply is written: in the place of the entry for its PB and SB, behind the others, or, with 8 entries and none for it, not at all
-data Writes (b : ReplyBook) (r : Reply) : Entry → Written → Type 0 where
+data Writes (b : ReplyBook) (r : Reply) : Found → Written → Type 0 where
   replaced : {j : ℕ} → First (r .pb) (r .sb) (entered b) j → Writes b r (At j) (record { taken = true; book = withEntry b j r })
   appended : None (r .pb) (r .sb) (entered b) → b .held < replyEntries
       → Writes b r Missing (record { taken = true; book = record { entries = set (b .entries) (b .held) r; held = b .held + 1 } })
@@ -141,7 +142,7 @@ module _ (b : ReplyBook) (k : Filed b) where
   unfolding answerFor entryAt
   answer-in pb sb = by-entry (searched pb sb)
     where
-      by-entry : {n : Entry} → Searched pb sb 0 (entered b) n → loadAt n b ≡ loadIn pb sb (entered b)
+      by-entry : {n : Found} → Searched pb sb 0 (entered b) n → loadAt n b ≡ loadIn pb sb (entered b)
       by-entry (found {i} {j} e w) =
           let p : i ≡ j = omega arith in
           let h : j < b .held = omega (arith, first-within pb sb w, entered-length) in
@@ -158,11 +159,11 @@ module _ (b : ReplyBook) (k : Filed b) where
       by-room true e w = appended w (ltb-true (b .held) replyEntries e)
       by-room false e w = refused (omega (arith, ltb-false (b .held) replyEntries e, k .room))
 
-      by-entry : {n : Entry} → Searched (r .pb) (r .sb) 0 (entered b) n → Writes b r n (writtenAt n b r)
+      by-entry : {n : Found} → Searched (r .pb) (r .sb) 0 (entered b) n → Writes b r n (writtenAt n b r)
       by-entry (found {i} {j} e w) = let p : i ≡ j = omega arith in rw p (replaced w)
       by-entry (missed w) = by-room (ltb (b .held) replyEntries) refl w
 
-  filed-row : {r : Reply} {n : Entry} {w : Written} → Writes b r n w → Filed (w .book)
+  filed-row : {r : Reply} {n : Found} {w : Written} → Writes b r n w → Filed (w .book)
   unfolding withEntry
   filed-row {r} (replaced {j} _) = record { array = length-set (b .entries) j r ∙ k .array; room = k .room }
   filed-row {r} (appended _ h) = record { array = length-set (b .entries) (b .held) r ∙ k .array; room = omega (arith, h) }
@@ -177,24 +178,24 @@ module _ (b : ReplyBook) (k : Filed b) where
   appended-entered : (r : Reply) → b .held < replyEntries → take (b .held + 1) (set (b .entries) (b .held) r) ≡ entered b ++ (r ∷ [])
   appended-entered r h = rw (add-one, take-suc-set (b .entries) (b .held) r (omega (arith, k .array)))
 
-  own-row : {r : Reply} {n : Entry} {w : Written} → Writes b r n w → w .taken ≡ true → loadIn (r .pb) (r .sb) (entered (w .book)) ≡ r .load
+  own-row : {r : Reply} {n : Found} {w : Written} → Writes b r n w → w .taken ≡ true → loadIn (r .pb) (r .sb) (entered (w .book)) ≡ r .load
   own-row {r} (replaced w) t = rw (replaced-entered r w) (set-same (r .pb) (r .sb) r (for-itself r) w)
   own-row {r} (appended w h) t = rw (appended-entered r h) (append-same (r .pb) (r .sb) r (for-itself r) w)
   own-row (refused _) t = absurd (false≢true t)
 
-  other-row : (pb sb : ℕ) {r : Reply} {n : Entry} {w : Written} → isFor r pb sb ≡ false → Writes b r n w
+  other-row : (pb sb : ℕ) {r : Reply} {n : Found} {w : Written} → isFor r pb sb ≡ false → Writes b r n w
       → loadIn pb sb (entered (w .book)) ≡ loadIn pb sb (entered b)
   other-row pb sb {r} f (replaced w) = rw (replaced-entered r w) (set-other r (r .pb) (r .sb) pb sb (for-itself r) f w)
   other-row pb sb {r} f (appended w h) = rw (appended-entered r h) (append-other pb sb r (entered b) f)
   other-row pb sb f (refused _) = refl
 
-  refused-row : {r : Reply} {n : Entry} {w : Written} → Writes b r n w → (w .taken ≡ false) ↔ ((b .held ≡ replyEntries) × (n ≡ Missing))
+  refused-row : {r : Reply} {n : Found} {w : Written} → Writes b r n w → (w .taken ≡ false) ↔ ((b .held ≡ replyEntries) × (n ≡ Missing))
   refused-row (replaced _) =
       (λ t. absurd (false≢true (sym t)), λ p. let q = p .1 in let z : _≡_ {A = ℕ} 0 1 = cc q in absurd (omega arith))
   refused-row (appended _ h) = (λ t. absurd (false≢true (sym t)), λ p. absurd (omega (arith, h, p .0)))
   refused-row (refused e) = (λ _. (e, refl), λ _. refl)
 
-  unchanged-row : {r : Reply} {n : Entry} {w : Written} → Writes b r n w → w .taken ≡ false → w .book ≡ b
+  unchanged-row : {r : Reply} {n : Found} {w : Written} → Writes b r n w → w .taken ≡ false → w .book ≡ b
   unchanged-row (replaced _) t = absurd (false≢true (sym t))
   unchanged-row (appended _ _) t = absurd (false≢true (sym t))
   unchanged-row (refused _) t = refl
@@ -234,7 +235,7 @@ module _ (b : ReplyBook) (r : Reply) (k : Filed b) where
 
 -- at first there is no entry
 pub none-missing : (pb sb : ℕ) → entryOf noEntries pb sb ≡ Missing
-unfolding entryOf noEntries countIn entryFrom
+unfolding entryOf noEntries countIn firstFrom
 none-missing pb sb = refl
 
 -- with no entry the answer has NN 0

@@ -8,7 +8,7 @@ pub mod Moves
 pub mod Ownership
 pub mod Possible
 pub mod Saying
-pub mod Search
+pub mod Entries
 pub mod SilentStation
 pub mod Turned
 pub mod Waiting

@@ -1,15 +1,15 @@
 -- What a slave answers, by PB and SB: 8 entries at most (01, "Answer" and the table's line 12). Assumes nothing.
 use mathlib.Core.Bool.{Bool, true, false, cond}
-use mathlib.Core.List.{List, [], _∷_}
-use Prim.Native.Nat.{ℕ, suc, _+_}
+use Prim.Native.Nat.{ℕ, _+_}
 use lib.Dec.{eqb, ltb}
 use lib.ListN.{getD, set, take, replicate}
+use Rattle.laws.specs.First.{firstFrom}
+use Rattle.laws.specs.declared.Found.{Found}
+use Rattle.laws.specs.declared.Found.the-variants.{At, Missing}
 use Rattle.wire.specs.declared.part.Load.{Load}
 use Rattle.station.specs.declared.replies.Reply.{Reply}
 use Rattle.station.specs.declared.replies.ReplyBook.{ReplyBook}
 use Rattle.station.specs.declared.replies.Written.{Written}
-use Rattle.station.specs.declared.replies.Entry.{Entry}
-use Rattle.station.specs.declared.replies.Entry.the-variants.{At, Missing}
 
 abbrev pub replyEntries : ℕ
 replyEntries = 8
@@ -24,17 +24,13 @@ noEntries = record { entries = replicate replyEntries noReply; held = 0 }
 unfoldable pub isFor : Reply → ℕ → ℕ → Bool
 isFor e pb sb = cond (eqb (e .pb) pb) (eqb (e .sb) sb) false
 
--- the first entry for PB and SB, counted from i
-unfoldable pub entryFrom : ℕ → ℕ → ℕ → List Reply → Entry
-entryFrom i pb sb [] = Missing
-entryFrom i pb sb (e ∷ es) = let later = entryFrom (suc i) pb sb es in cond (isFor e pb sb) (At i) later
-
 -- how many entries there are
 unfoldable pub countIn : ReplyBook → ℕ
 countIn b = cond (ltb (b .held) replyEntries) (b .held) replyEntries
 
-unfoldable pub entryOf : ReplyBook → ℕ → ℕ → Entry
-entryOf b pb sb = entryFrom 0 pb sb (take (countIn b) (b .entries))
+-- the first entry for PB and SB
+unfoldable pub entryOf : ReplyBook → ℕ → ℕ → Found
+entryOf b pb sb = firstFrom (λ e. isFor e pb sb) 0 (take (countIn b) (b .entries))
 
 unfoldable pub entryAt : ReplyBook → ℕ → Reply
 entryAt b i = getD (b .entries) i noReply
@@ -50,7 +46,7 @@ added b r =
     (record { taken = false; book = b })
 
 -- a reply with the same PB and SB replaces the entry
-abbrev pub writtenAt : Entry → ReplyBook → Reply → Written
+abbrev pub writtenAt : Found → ReplyBook → Reply → Written
 writtenAt (At i) b r = record { taken = true; book = withEntry b i r }
 writtenAt Missing b r = added b r
 
@@ -58,7 +54,7 @@ unfoldable pub written : ReplyBook → Reply → Written
 written b r = writtenAt (entryOf b (r .pb) (r .sb)) b r
 
 -- with no entry the answer has NN 0
-abbrev pub loadAt : Entry → ReplyBook → Load
+abbrev pub loadAt : Found → ReplyBook → Load
 loadAt (At i) b = entryAt b i .load
 loadAt Missing b = noReply .load
 

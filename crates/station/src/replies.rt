@@ -2,6 +2,7 @@
 ghost use mathlib.Core.Path.{_≡_};
 ghost use Rattle.station.specs.Replies.{noReply, isFor, noEntries, countIn, entryAt, withEntry, entryOf, added, written, answerFor};
 use crate::station::Station;
+use laws::Found;
 use wire::part::Load;
 
 pub struct Reply {
@@ -19,11 +20,6 @@ pub struct ReplyBook {
 pub struct Written {
     pub taken: bool,
     pub book: ReplyBook,
-}
-
-pub enum Entry {
-    At(usize),
-    Missing,
 }
 
 // With no entry the answer has NN 0.
@@ -64,11 +60,11 @@ impl ReplyBook {
         ensures { λ r. ⌜ r ≡ answerFor self pb sb ⌝ }
     {
         match self.find(pb, sb) {
-            Entry::At(i) => {
+            Found::At(i) => {
                 let e = self.entry(i);
                 e.load
             }
-            Entry::Missing => {
+            Found::Missing => {
                 let e = no_reply();
                 e.load
             }
@@ -80,14 +76,14 @@ impl ReplyBook {
         ensures { λ w. ⌜ w ≡ written self r ⌝ }
     {
         match self.find(r.pb, r.sb) {
-            Entry::At(i) => {
+            Found::At(i) => {
                 let b = self.put(i, r);
                 Written {
                     taken: true,
                     book: b,
                 }
             }
-            Entry::Missing => self.add(r),
+            Found::Missing => self.add(r),
         }
     }
 
@@ -143,7 +139,7 @@ impl ReplyBook {
         }
     }
 
-    fn find(self, pb: u8, sb: u8) -> Entry
+    fn find(self, pb: u8, sb: u8) -> Found
         ensures { λ r. ⌜ r ≡ entryOf self pb sb ⌝ }
     {
         let n = self.count();
@@ -151,10 +147,10 @@ impl ReplyBook {
         while i < n {
             let e = self.entry(i);
             if e.is_for(pb, sb) {
-                return Entry::At(i);
+                return Found::At(i);
             }
             i += 1;
         }
-        Entry::Missing
+        Found::Missing
     }
 }
