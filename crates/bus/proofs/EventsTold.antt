@@ -1,12 +1,11 @@
 -- A bus whose stations were told nothing has no events, and only such a bus. Assumes nothing.
-use mathlib.Core.Path.{_≡_, refl, sym, ap, _∙_}
-use mathlib.Core.Bool.{Bool, true, false, cond, true≢false, false≢true}
+use mathlib.Core.Path.{_≡_, refl, ap}
+use mathlib.Core.Bool.{Bool, true, false, true≢false}
 use mathlib.Core.List.{List, [], _∷_, _++_}
 use mathlib.Core.Logic.{_↔_}
-use Prim.Native.Nat.{ℕ}
 use native.Mathlib.Omega.{arith}
 use lib.ListN.{length}
-use Rattle.laws.specs.First.{firstFrom, isFound}
+use Rattle.laws.specs.First.{isFound}
 use Rattle.laws.specs.declared.Found.{Found}
 use Rattle.laws.specs.declared.Found.the-variants.{At, Missing}
 use Rattle.station.specs.Events.{tells, eventsAs}
@@ -19,7 +18,7 @@ use Rattle.bus.specs.Bus.{attachedTurns}
 use Rattle.bus.specs.Events.{those, linesOf, events}
 use Rattle.bus.specs.Find.{meets, firstOf, thereIs}
 use Rattle.bus.specs.Rest.{isTold}
-use Rattle.bus.proofs.FirstIs.{Every, none, next, missing-each, each-missing}
+use Rattle.laws.proofs.FirstIs.{Every, none, next, missing-each, each-missing}
 
 nil-parts : {A : Type 0} (xs ys : List A) → xs ++ ys ≡ [] → (xs ≡ []) × (ys ≡ [])
 nil-parts [] ys e = (refl, e)

@@ -1,6 +1,6 @@
 -- The proved examples P1 to P12 hold (01, "Proved examples"). Assumes nothing.
-use mathlib.Core.Path.{_≡_, refl, sym, ap, ap₂, _∙_}
-use mathlib.Core.Bool.{true, cond}
+use mathlib.Core.Path.{_≡_, refl, ap, ap₂, _∙_}
+use mathlib.Core.Bool.{cond}
 use mathlib.Core.List.{List, [], _∷_, _++_, map}
 use Prim.Native.Nat.{ℕ}
 use borrow.Author.Tests.{le-ltb}
@@ -32,7 +32,7 @@ use Rattle.bus.specs.declared.find.Query.the-variants.{Master}
 use Rattle.bus.specs.declared.refusal.Refusal.the-variants.{NoMaster, NoTarget, NoCommand, TooMuchData}
 use Rattle.bus.specs.Attach.{noSuchAddress, occupied, newcomer, takesSeat, attaches}
 use Rattle.bus.specs.Bus.{poweredOn, attachedTo, turnAt, withTurn, refusedBy, done}
-use Rattle.bus.specs.Examples.{Bid, Contest, attached, queued, bidsFrom, counted, bidsGiven, Shown, symbols, slotsAfter, given, written, contests, examples}
+use Rattle.bus.specs.Examples.{Bid, Contest, attached, queued, bidsFrom, counted, bidsGiven, symbols, slotsAfter, given, written, contests, examples}
 use Rattle.bus.specs.Find.{isMasterAt, firstOf, thereIs}
 use Rattle.bus.specs.Queue.{unusable, noTarget, noCommand, holds, queuesTelegram, queuesFrom, queuesAt, queues}
 use Rattle.bus.specs.Slot.{generatorSays, spoken, slotHeard, slotRun}

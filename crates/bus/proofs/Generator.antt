@@ -7,7 +7,7 @@ use Rattle.station.specs.declared.phase.Sound.{Sound}
 use Rattle.station.specs.declared.phase.Sound.the-variants.{Quiet, Symbol}
 use Rattle.bus.specs.declared.bus.Bus.{Bus}
 use Rattle.bus.specs.Bus.{poweredOn, attachedTo}
-use Rattle.bus.specs.Slot.{generatorSays, generatorNext, spoken, slotHeard}
+use Rattle.bus.specs.Slot.{generatorSays, spoken, slotHeard}
 
 -- it is quiet until nine quiet slots are counted
 pub silent-before-nine : (q : ℕ) → q < 9 → generatorSays q ≡ Quiet

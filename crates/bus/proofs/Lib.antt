@@ -1,7 +1,7 @@
+pub mod BesideFF
 pub mod DoneChanges
 pub mod EventsTold
 pub mod ExamplesHold
-pub mod FirstIs
 pub mod Generator
 pub mod Loops
 pub mod Reflects

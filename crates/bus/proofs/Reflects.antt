@@ -1,20 +1,18 @@
 -- Tests and what they test; the lines of 01's table in their order; a search and what it looks for. Assumes nothing.
-use mathlib.Core.Path.{_≡_, refl, sym, ap, _∙_}
+use mathlib.Core.Path.{_≡_, refl, sym, _∙_}
 use mathlib.Core.Bool.{Bool, true, false, cond, true≢false, false≢true}
 use mathlib.Core.List.{List, [], _∷_}
 use mathlib.Core.Logic.{_↔_, _≢_, _⊎_, inl, inr, ⊎-elim}
-use Prim.Native.Nat.{ℕ, zero, suc, _≤_, _<_}
+use Prim.Native.Nat.{ℕ, zero, suc, _<_}
 use native.Mathlib.Omega.{arith}
 use borrow.Author.Tests.{eqb-true, eq-eqb, ltb-true, lt-ltb}
 use lib.Dec.{eqb, ltb}
-use lib.ListN.{length, getD, take}
+use lib.ListN.{length, getD}
 use Rattle.laws.specs.First.{firstFrom, isFound}
-use Rattle.laws.specs.declared.Found.{Found}
-use Rattle.laws.specs.declared.Found.the-variants.{At, Missing}
-use Rattle.bus.specs.declared.bus.Bus.{Bus}
+use Rattle.laws.specs.declared.Found.the-variants.{At}
 use Rattle.bus.specs.declared.bus.Answer.{Answer}
 use Rattle.bus.specs.Conditions.{numberGiven, Any, here, there, First, first, later, Unless}
-use Rattle.bus.proofs.FirstIs.{FoundAt}
+use Rattle.laws.proofs.FirstIs.{FoundAt}
 
 -- the test passes exactly when C holds
 abbrev pub Reflects : Bool → Type 0 → Type 0
@@ -22,10 +20,6 @@ Reflects t C = (t ≡ true) ↔ C
 
 pub refuses : {C : Type 0} (t : Bool) → Reflects t C → t ≡ false → C → ⊥
 refuses t r e c = false≢true (sym e ∙ r .1 c)
-
-pub fails : {C : Type 0} (t : Bool) → Reflects t C → (C → ⊥) → t ≡ false
-fails true r n = absurd (n (r .0 refl))
-fails false r n = refl
 
 -- ---- tests
 

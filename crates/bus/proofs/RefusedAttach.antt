@@ -1,13 +1,12 @@
 -- Refusals 7, 8, 9 and 10: attach gives each exactly when its line of 01's table holds and no earlier one does.
 -- Assumes nothing.
-use mathlib.Core.Path.{_≡_, refl, sym, ap, _∙_}
+use mathlib.Core.Path.{_≡_, refl}
 use mathlib.Core.Bool.{Bool, true, false, cond, _||_, true≢false, false≢true}
-use mathlib.Core.Logic.{_↔_, _≢_, _⊎_, inl, inr, ⊎-elim}
-use Prim.Native.Nat.{ℕ, _≤_, _<_}
+use mathlib.Core.Logic.{_↔_, _⊎_, inl, inr}
+use Prim.Native.Nat.{ℕ}
 use native.Mathlib.Omega.{arith}
-use borrow.Author.Tests.{ltb-true, ltb-false, lt-ltb, le-ltb}
+use borrow.Author.Tests.{ltb-true}
 use lib.Dec.{eqb, ltb}
-use Rattle.laws.specs.First.{firstFrom, isFound}
 use Rattle.address.specs.Kind.{kindOf}
 use Rattle.address.specs.Master.{isMaster, slaveOf}
 use Rattle.address.specs.declared.Kind.the-variants.{Master, Slave, Broadcast, Never}

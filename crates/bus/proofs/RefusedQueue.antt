@@ -8,9 +8,9 @@ use Prim.Native.Nat.{ℕ, _≤_, _<_}
 use native.Mathlib.Omega.{arith}
 use borrow.Author.Tests.{eqb-true, ltb-true, ltb-false}
 use lib.Dec.{eqb, ltb}
-use lib.ListN.{length, take, getD, length-take}
+use lib.ListN.{length, length-take}
 use lib.Seq.{getD-take}
-use Rattle.laws.specs.First.{firstFrom, isFound}
+use Rattle.laws.specs.First.{isFound}
 use Rattle.laws.specs.declared.Found.{Found}
 use Rattle.laws.specs.declared.Found.the-variants.{At, Missing}
 use Rattle.address.specs.Half.{halfIndex}
@@ -33,7 +33,7 @@ use Rattle.bus.specs.Bus.{unseated, attachedTo, attachedTurns, turnAt, r
 use Rattle.bus.specs.Conditions.{numberGiven, Any, First, Unless, MasterAt, NoSource, Forbidden, WrongTarget, WrongCommand, MuchData, LongPart, QueueFull}
 use Rattle.bus.specs.Find.{isMasterAt, meets, firstOf}
 use Rattle.bus.specs.Queue.{isNever, unusable, noTarget, noCommand, holds, queuesTelegram, queuesFrom, queuesAt, queues}
-use Rattle.bus.proofs.FirstIs.{FoundAt, found-at}
+use Rattle.laws.proofs.FirstIs.{found-at}
 use Rattle.bus.proofs.Reflects.{Reflects, refuses, equal, below, or-reflects, and-reflects, itself, this-line, earlier-line, last-line, not-number, number-cond, search-reflects, found-first, first-one, first-holds}
 
 -- ---- the tests

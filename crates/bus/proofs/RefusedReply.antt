@@ -3,8 +3,8 @@
 use mathlib.Core.Path.{_≡_, refl, sym, ap, _∙_}
 use mathlib.Core.Bool.{Bool, true, false, cond, true≢false, false≢true}
 use mathlib.Core.List.{List, [], _∷_}
-use mathlib.Core.Logic.{_↔_, _≢_, _⊎_, inl, inr, ⊎-elim}
-use Prim.Native.Nat.{ℕ, suc, _≤_, _<_}
+use mathlib.Core.Logic.{_↔_, _≢_, inl, inr, ⊎-elim}
+use Prim.Native.Nat.{ℕ, suc, _≤_}
 use native.Mathlib.Omega.{arith}
 use borrow.Author.Tests.{ltb-true, ltb-false}
 use lib.Dec.{eqb, ltb}
@@ -25,7 +25,7 @@ use Rattle.bus.specs.Conditions.{numberGiven, Any, here, there, First, U
 use Rattle.bus.specs.Find.{slaveAddress, meets, firstOf}
 use Rattle.bus.specs.Queue.{noCommand}
 use Rattle.bus.specs.Reply.{writes, repliesFrom, repliesAt, replies}
-use Rattle.bus.proofs.Reflects.{Reflects, refuses, fails, equal, below, and-reflects, this-line, earlier-line, last-line, not-number, number-cond, any-some, any-tail, first-one}
+use Rattle.bus.proofs.Reflects.{Reflects, refuses, equal, below, and-reflects, this-line, earlier-line, last-line, not-number, number-cond, any-some, any-tail, first-one}
 use Rattle.bus.proofs.RefusedQueue.{command-reflects, turn-found, someone}
 
 -- ---- the tests

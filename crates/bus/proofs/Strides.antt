@@ -1,6 +1,6 @@
 -- A stride of `run` is as many slots, one after the other. Assumes nothing.
 use mathlib.Core.Path.{_≡_, refl, sym, ap, _∙_}
-use mathlib.Core.Bool.{Bool, true, false, cond, true≢false, false≢true}
+use mathlib.Core.Bool.{Bool, true, false, cond}
 use Prim.Native.Nat.{ℕ, zero, suc, _-_, _%_, _≤_, _<_}
 use native.Mathlib.Omega.{arith}
 use borrow.Author.Tests.{ltb-true, lt-ltb}
@@ -11,7 +11,7 @@ use Rattle.bus.specs.declared.run.Stop.{Stop}
 use Rattle.bus.specs.Find.{thereIs}
 use Rattle.bus.specs.Run.{runs, atRest, later, oneSlot, stride}
 use Rattle.bus.specs.Slot.{slotRun}
-use Rattle.bus.proofs.Tens.{slotsLater, tens, rest-tells-nobody}
+use Rattle.bus.proofs.Tens.{tens, rest-tells-nobody}
 
 -- a run that goes on from where a stride came to: it stops there if somebody was told something
 abbrev goesOn : Bool → Stop → Stop

@@ -5,9 +5,8 @@ use mathlib.Core.Bool.{Bool, true, false, cond, true≢false, false≢true}
 use mathlib.Core.List.{List, [], _∷_}
 use Prim.Native.Nat.{ℕ, zero, suc, _+_, _-_, _*_, _/_, _%_, _^_, _≤_, _<_}
 use native.Mathlib.Nat.{suc-add, zero-add, add-zero, mod-add-mod, div-add-mod}
-use native.Mathlib.Numerals.{add-one}
 use native.Mathlib.Omega.{arith}
-use borrow.Author.Tests.{eqb-true, eqb-false, ltb-false, lt-ltb, le-ltb}
+use borrow.Author.Tests.{eqb-true, eqb-false, ltb-false, lt-ltb}
 use lib.Dec.{eqb, ltb}
 use lib.ListN.{take}
 use Rattle.laws.specs.First.{firstFrom, isFound}
@@ -43,7 +42,7 @@ use Rattle.bus.specs.Find.{meets, firstOf, thereIs}
 use Rattle.bus.specs.Rest.{isTold, isQq, atStart, firstMaster, fromStart, idleSince, idle, rests}
 use Rattle.bus.specs.Run.{runs, atRest}
 use Rattle.bus.specs.Slot.{wired, patience, generatorSays, saidBy, spokenWith, spoken, turned, mapFirst, slotHeard, slotRun}
-use Rattle.bus.proofs.FirstIs.{Every, none, next, every-map, missing-each, each-missing}
+use Rattle.laws.proofs.FirstIs.{Every, none, next, every-map, missing-each, each-missing}
 
 -- ---- a station at rest
 

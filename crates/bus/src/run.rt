@@ -37,7 +37,7 @@ impl Bus {
     {
         if self.quiet == 0 {
             false
-        } else if 9 < self.quiet {
+        } else if Bus::PATIENCE < self.quiet {
             false
         } else if self.there_is(Query::Restless) {
             false

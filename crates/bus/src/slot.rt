@@ -21,7 +21,7 @@ fn wired(a: Sound, b: Sound) -> Sound
 
 impl Bus {
     // The generator sends AA after nine quiet slots in a row.
-    const PATIENCE: u8 = 9;
+    pub(crate) const PATIENCE: u8 = 9;
 
     // An undisturbed slot.
     pub fn slot(self) -> Bus

@@ -1,3 +1,4 @@
 pub mod Computed
 pub mod First
+pub mod FirstIs
 pub mod Lists

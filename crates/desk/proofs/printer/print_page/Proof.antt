@@ -1,0 +1,50 @@
+-- `desk::printer::print_page` meets its contract. Assumes nothing.
+use borrow.Author.Needs.{needs}
+use Prim.Native.Nat.{_≤_, _-_}
+use Rattle.desk.proofs.printer.print_page.Statement.{statement}
+use Rattle.desk.proofs.printer.print_page.Tie as tie
+
+abbrev Inv-loop : tie.InvT-loop
+Inv-loop out₀ used page k to₀ i₀ out to i = i ≤ 2560
+
+abbrev μ-loop : tie.MeasureT-loop
+μ-loop out₀ used page k to₀ i₀ out to i = 2560 - i
+
+loop-holds : tie.Need-loop-holds Inv-loop μ-loop
+loop-holds c = search needs
+
+returns : tie.Need-returns Inv-loop μ-loop
+returns c = search needs
+
+element-copy-out-put : tie.Need-element-copy-out-put Inv-loop μ-loop
+element-copy-out-put c = search needs
+
+put-requires : tie.Need-put-requires Inv-loop μ-loop
+put-requires c κs = search needs
+
+add-i : tie.Need-add-i Inv-loop μ-loop
+add-i c = search needs
+
+loop-less : tie.Need-loop-less Inv-loop μ-loop
+loop-less c = search needs
+
+loop-again : tie.Need-loop-again Inv-loop μ-loop
+loop-again c = search needs
+
+returns-2 : tie.Need-returns-2 Inv-loop μ-loop
+returns-2 c = search needs
+
+pub print-page-spec : {M : Type 1} → statement M
+print-page-spec =
+    tie.close
+    (tie.spec
+    Inv-loop
+    μ-loop
+    loop-holds
+    returns
+    element-copy-out-put
+    put-requires
+    add-i
+    loop-less
+    loop-again
+    returns-2)

@@ -1,0 +1,235 @@
+-- No address is answered to by two attached stations, whatever was called: refusal 9 keeps them apart, and no other call
+-- changes an address (01, the table). Assumes nothing.
+use mathlib.Core.Path.{_≡_, refl, sym, ap, subst, _∙_}
+use mathlib.Core.Bool.{Bool, true, false, cond, false≢true, true≢false}
+use mathlib.Core.List.{List}
+use Prim.Native.Nat.{ℕ, zero, suc, _≤_, _<_}
+use native.Mathlib.Omega.{arith}
+use native.Mathlib.Nat.{not-suc-le-zero, le-of-suc-le-suc}
+use native.Mathlib.Decide.{ℕ-discrete}
+use borrow.Author.Tests.{eqb-true, ltb-false}
+use lib.Dec.{eqb, ltb}
+use lib.ListN.{length, getD, length-set}
+use lib.Seq.{getD-take, length-take-le}
+use Rattle.laws.specs.First.{firstFrom, isFound}
+use Rattle.laws.specs.declared.Found.{Found}
+use Rattle.laws.specs.declared.Found.the-variants.{At, Missing}
+use Rattle.address.specs.Kind.{kindOf}
+use Rattle.address.specs.Master.{isMaster, slaveOf}
+use Rattle.address.specs.declared.Kind as K
+use Rattle.address.specs.declared.Kind.the-variants as kind
+use Rattle.address.proofs.Which.{master-exactly-when}
+use Rattle.station.specs.Read.{isOwn}
+use Rattle.station.specs.Station.{fresh, ready}
+use Rattle.station.specs.declared.phase.Sound.{Sound}
+use Rattle.station.specs.declared.station.Station.{Station}
+use Rattle.station.specs.declared.station.Turn.{Turn}
+use Rattle.station.proofs.Frame.{hears-lasting, ready-lasting}
+use Rattle.bus.specs.declared.bus.Bus.{Bus}
+use Rattle.bus.specs.declared.bus.Answer.{Answer}
+use Rattle.bus.specs.declared.find.Query.the-variants.{Owner}
+use Rattle.bus.specs.Bus.{seats, unseated, poweredOn, attachedTo, attachedTurns, turnAt, withTurn}
+use Rattle.bus.specs.Find.{meets, firstOf, thereIs}
+use Rattle.bus.specs.Attach.{wrongFor, noSuchAddress, occupied, newcomer}
+use Rattle.bus.specs.Slot.{slotHeard}
+use Rattle.bus.proofs.Loops.{attached-fit}
+use Rattle.laws.proofs.FirstIs.{Every, none, next, missing-each}
+use Rattle.promises.specs.Calls.{Call, ByteCall, Reachable}
+use Rattle.promises.specs.Fit.{stationAt, Addressed, Fit}
+use Rattle.promises.proofs.Seats.{withNewcomer, Did, refused, attached, queued, replied, holdingMore, answeringMore, attached-turn, attached-slot, attached-before, attached-newcomer, turn-same, turn-other, newcomer-seat, other-seat, slot-seat, whole-slot, of-reachable, by-call}
+
+-- ---- who a station is
+
+record SameOne (s after : Station) : Type 0 where
+  address : after .address ≡ s .address
+  master : after .master ≡ s .master
+
+own-same : {s after : Station} → SameOne s after → (a : ℕ) → isOwn after a ≡ isOwn s a
+unfolding isOwn
+own-same e a = rw (e .address, e .master)
+
+-- where every attached station is who it was, the bus is fit as it was
+still-fit : (b after : Bus) → length (after .turns) ≡ seats → attachedTo after ≡ attachedTo b
+    → ((i : ℕ) → i < attachedTo b → SameOne (stationAt b i) (stationAt after i)) → Fit b → Fit after
+still-fit b after w n same f =
+    record {
+      array = w;
+      apart = λ i j a h k o p.
+          let h = rw n at h in
+          let k = rw n at k in
+          f .apart i j a h k (sym (own-same (same i h) a) ∙ o) (sym (own-same (same j k) a) ∙ p);
+      addressed = λ i h.
+          let h = rw n at h in
+          let e = same i h in
+          let g = f .addressed i h in
+          record { byte = rw (e .address) (g .byte); master-address = rw (e .address, e .master) (g .master-address) };
+    }
+
+-- ---- the newcomer
+
+every-at : {A : Type 0} {P : A → Type 0} {l : List A} → Every P l → (i : ℕ) (d : A) → i < length l → P (getD l i d)
+every-at none i d h = absurd (not-suc-le-zero h)
+every-at (next p ps) zero d h = p
+every-at (next p ps) (suc i) d h = every-at ps i d (le-of-suc-le-suc h)
+
+-- nobody has an address that no search finds
+nobody-has : (b : Bus) (a : ℕ) → length (b .turns) ≡ seats → thereIs b (Owner a) ≡ false
+    → (i : ℕ) → i < attachedTo b → isOwn (stationAt b i) a ≡ false
+unfolding thereIs firstOf turnAt
+nobody-has b a w e i h = go (firstFrom (meets (Owner a)) 0 (attachedTurns b)) refl e
+  where
+    go : (f : Found) → firstFrom (meets (Owner a)) 0 (attachedTurns b) ≡ f → isFound f ≡ false → isOwn (getD (b .turns) i unseated .station) a ≡ false
+    go (At j) q e = absurd (true≢false e)
+    go Missing q e =
+        let n : length (attachedTurns b) ≡ attachedTo b = length-take-le (attachedTo b) (b .turns) (omega (arith, attached-fit b)) in
+        let k : i < length (attachedTurns b) = omega arith in
+        let r = every-at (missing-each (meets (Owner a)) 0 (attachedTurns b) q) i unseated k in
+        ap (λ (t : Turn). isOwn (t .station) a) (sym (getD-take (attachedTo b) (b .turns) i unseated h)) ∙ r
+
+either-false : (s t : Bool) → cond s true t ≡ false → (s ≡ false) × (t ≡ false)
+either-false true t e = absurd (true≢false e)
+either-false false t e = (refl, e)
+
+-- what a newcomer would answer to, nobody does
+apart-from : (b : Bus) (a : ℕ) (m : Bool) → length (b .turns) ≡ seats → occupied b a m ≡ false → (i x : ℕ) → i < attachedTo b
+    → isOwn (stationAt b i) x ≡ true → isOwn (fresh a m) x ≡ true → ⊥
+unfolding occupied isOwn fresh
+apart-from b a m w o i x h p q = by-first (eqb x a) refl q
+  where
+    e : (thereIs b (Owner a) ≡ false) × (cond m (thereIs b (Owner (slaveOf a))) false ≡ false)
+    e = either-false (thereIs b (Owner a)) (cond m (thereIs b (Owner (slaveOf a))) false) o
+
+    by-second : (n : Bool) → cond n (thereIs b (Owner (slaveOf a))) false ≡ false → cond n (eqb x (slaveOf a)) false ≡ true → ⊥
+    by-second true r q = false≢true (sym (nobody-has b (slaveOf a) w r i h) ∙ rw (eqb-true x (slaveOf a) q) at p)
+    by-second false r q = false≢true q
+
+    by-first : (t : Bool) → eqb x a ≡ t → cond t true (cond m (eqb x (slaveOf a)) false) ≡ true → ⊥
+    by-first true r q = false≢true (sym (nobody-has b a w (e .0) i h) ∙ rw (eqb-true x a r) at p)
+    by-first false r q = by-second m (e .1) q
+
+wrong-not : (k : K.Kind) → wrongFor k true ≡ false → k ≡ kind.Master
+wrong-not kind.Master e = refl
+wrong-not kind.Slave e = absurd (true≢false e)
+wrong-not kind.Broadcast e = absurd (true≢false e)
+wrong-not kind.Never e = absurd (true≢false e)
+
+newcomer-addressed : (a : ℕ) (m : Bool) → a < 256 → noSuchAddress a m ≡ false → Addressed (newcomer a m .station)
+unfolding newcomer noSuchAddress fresh
+newcomer-addressed a m h n = record { byte = h; master-address = of-master m n }
+  where
+    of-master : (m : Bool) → wrongFor (kindOf a) m ≡ false → m ≡ true → isMaster a ≡ true
+    of-master true n e = master-exactly-when a h .0 (wrong-not (kindOf a) n)
+    of-master false n e = absurd (false≢true e)
+
+module _ (b : Bus) (a : ℕ) (m : Bool) (f : Fit b) (byte : a < 256) (n : noSuchAddress a m ≡ false) (o : occupied b a m ≡ false) (room : b .count < seats) where
+  abbrev after : Bus
+  after = withNewcomer b a m
+
+  -- a seat is the newcomer's, or was taken before
+  data Seat (i : ℕ) : Type 0 where
+    new : i ≡ b .count → stationAt after i ≡ fresh a m → Seat i
+    old : i < attachedTo b → stationAt after i ≡ stationAt b i → Seat i
+
+  seat : (i : ℕ) → i < attachedTo after → Seat i
+  unfolding newcomer
+  seat i h = go (ℕ-discrete i (b .count))
+    where
+      go : Dec (i ≡ b .count) → Seat i
+      go (yes e) = new e (rw e (ap (λ (t : Turn). t .station) (newcomer-seat b a m (f .array) room)))
+      go (no d) =
+          old (omega (arith, attached-newcomer b a m room, attached-before b room)) (ap (λ (t : Turn). t .station) (other-seat b a m i d))
+
+  apart-after : (i j x : ℕ) → Seat i → Seat j → isOwn (stationAt after i) x ≡ true → isOwn (stationAt after j) x ≡ true → i ≡ j
+  apart-after i j x (new e s) (new g t) p q = e ∙ sym g
+  apart-after i j x (new e s) (old g t) p q = absurd (apart-from b a m (f .array) o j x g (rw t at q) (rw s at p))
+  apart-after i j x (old e s) (new g t) p q = absurd (apart-from b a m (f .array) o i x e (rw s at p) (rw t at q))
+  apart-after i j x (old e s) (old g t) p q = f .apart i j x e g (rw s at p) (rw t at q)
+
+  addressed-after : (i : ℕ) → Seat i → Addressed (stationAt after i)
+  unfolding newcomer
+  addressed-after i (new e s) = rw s (newcomer-addressed a m byte n)
+  addressed-after i (old e s) = rw s (f .addressed i e)
+
+  newcomer-fit : Fit after
+  newcomer-fit =
+      record {
+        array = length-set (b .turns) (b .count) (newcomer a m) ∙ f .array;
+        apart = λ i j x h k p q. apart-after i j x (seat i h) (seat j k) p q;
+        addressed = λ i h. addressed-after i (seat i h);
+      }
+
+-- ---- every call
+
+one-turn : (b : Bus) (i : ℕ) (t : Turn) → SameOne (stationAt b i) (t .station) → Fit b → Fit (withTurn b i t)
+unfolding withTurn
+one-turn b i t same f = still-fit b (withTurn b i t) (length-set (b .turns) i t ∙ f .array) (attached-turn b i t) each f
+  where
+    each : (j : ℕ) → j < attachedTo b → SameOne (stationAt b j) (stationAt (withTurn b i t) j)
+    each j h = go (ℕ-discrete j i)
+      where
+        go : Dec (j ≡ i) → SameOne (stationAt b j) (stationAt (withTurn b i t) j)
+        go (yes e) =
+            let k : i < attachedTo b = omega arith in
+            rw e (subst (λ (u : Turn). SameOne (stationAt b i) (u .station)) (sym (turn-same b i t (f .array) k)) same)
+        go (no d) =
+            subst (λ (u : Turn). SameOne (stationAt b j) (u .station)) (sym (turn-other b i j t d)) (record { address = refl; master = refl })
+
+answer-fit : {b : Bus} {c : Call} {x : Answer} → ByteCall c → Did b c x → Fit b → Fit (x .bus)
+answer-fit k (refused r) f = f
+answer-fit {b} k (attached {a = a} {m = m} _ n o h) f = newcomer-fit b a m f k n o h
+answer-fit {b} k (queued i t s) f =
+    one-turn b i (holdingMore (turnAt b i) t) (record { address = refl; master = refl }) f
+answer-fit {b} k (replied i r _) f =
+    one-turn b i (answeringMore (turnAt b i) r) (record { address = refl; master = refl }) f
+
+slot-fit : (b : Bus) (h : Sound) → Fit b → Fit (slotHeard b h)
+slot-fit b h f = still-fit b (slotHeard b h) (whole-slot b h (f .array)) (attached-slot b h) each f
+  where
+    each : (i : ℕ) → i < attachedTo b → SameOne (stationAt b i) (stationAt (slotHeard b h) i)
+    each i k =
+        let r = ready-lasting (stationAt b i) in
+        let g = hears-lasting (ready (stationAt b i)) h in
+        subst (λ (u : Turn). SameOne (stationAt b i) (u .station)) (sym (slot-seat b h i (f .array) k))
+        (record { address = g .address ∙ r .address; master = g .master ∙ r .master })
+
+fit-on : Fit poweredOn
+unfolding poweredOn attachedTo
+fit-on =
+    record {
+      array = refl;
+      apart = λ i j a h k o p. absurd (not-suc-le-zero h);
+      addressed = λ i h. absurd (not-suc-le-zero h);
+    }
+
+-- after any sequence of calls the addresses are apart
+pub reachable-fit : {b : Bus} → Reachable b → Fit b
+reachable-fit r = of-reachable Fit fit-on (λ b c k f. by-call Fit b (λ c x k d. answer-fit k d f) (λ h. slot-fit b h f) c k) r
+
+-- ---- how many are attached
+
+counted-answer : {b : Bus} {c : Call} {x : Answer} → Did b c x → b .count ≤ seats → x .bus .count ≤ seats
+unfolding withTurn
+counted-answer (refused _) w = w
+counted-answer (attached _ _ _ h) w = omega arith
+counted-answer (queued _ _ _) w = w
+counted-answer (replied _ _ _) w = w
+
+counted-slot : (b : Bus) (h : Sound) → b .count ≤ seats → slotHeard b h .count ≤ seats
+unfolding slotHeard
+counted-slot b h w = w
+
+-- after any calls there are at most 32
+pub reachable-count : {b : Bus} → Reachable b → b .count ≤ seats
+unfolding poweredOn
+reachable-count r =
+    of-reachable (λ b. b .count ≤ seats) (omega arith)
+    (λ b c k w. by-call (λ b. b .count ≤ seats) b (λ c x k d. counted-answer d w) (λ h. counted-slot b h w) c k) r
+
+-- so as many as are counted
+pub reachable-attached : {b : Bus} → Reachable b → attachedTo b ≡ b .count
+unfolding attachedTo
+reachable-attached {b} r = go (ltb (b .count) seats) refl
+  where
+    go : (t : Bool) → ltb (b .count) seats ≡ t → cond t (b .count) seats ≡ b .count
+    go true e = refl
+    go false e = omega (arith, ltb-false (b .count) seats e, reachable-count r)

@@ -1,0 +1,6 @@
+pub mod Calls
+pub mod Contest
+pub mod Fit
+pub mod Heard
+pub mod Orders
+pub mod Slots

@@ -1,0 +1,224 @@
+-- A page is never too short: the lines of a slot take at most 80 bytes a station, so at most 2560, and the page holds them whole.
+-- So do the line of a refusal, the line of a scenario's form and the last line. Assumes nothing.
+use mathlib.Core.Path.{_≡_, refl, ap, _∙_}
+use mathlib.Core.Bool.{Bool, true, false}
+use mathlib.Core.List.{List, [], _∷_, _++_, append-assoc}
+use Prim.Native.Nat.{ℕ, zero, suc, _+_, _*_, _≤_, _<_}
+use native.Mathlib.Omega.{arith}
+use borrow.Author.Tests.{lt-ltb}
+use lib.ListN.{length, take, drop, length-append, length-take}
+use lib.Seq.{set-at, append-snoc, take-append-seam}
+use Rattle.wire.specs.Form.{bytesOf}
+use Rattle.wire.specs.declared.part.Telegram.{Telegram}
+use Rattle.station.specs.Events.{owns, taken, failed, given, answer, Event, numberOf, event, freeEvent, eventsAs, tells}
+use Rattle.station.specs.declared.phase.Told.{Told}
+use Rattle.station.specs.declared.phase.Told.the-variants.{Silence, Owns, Taken, Failed, Free, FailedFree, Given, Answered}
+use Rattle.station.specs.declared.station.Turn.{Turn}
+use Rattle.bus.specs.Bus.{attachedTo, attachedTurns}
+use Rattle.bus.specs.Events.{those, linesOf, events}
+use Rattle.bus.specs.Refusal.{refusalNumber}
+use Rattle.bus.specs.declared.bus.Bus.{Bus}
+use Rattle.bus.specs.declared.refusal.Verdict.{Verdict}
+use Rattle.bus.specs.declared.refusal.Verdict.the-variants.{Done, Refused}
+use Rattle.bus.proofs.Loops.{attached-fit}
+use Rattle.scenario.specs.declared.form.Form.{Form}
+use Rattle.scenario.specs.declared.form.Form.the-variants.{Good, BadField, TooLong}
+use Rattle.scenario.specs.Pen.{Pen, pen, pageRoom, pennedOne, penned, hexText, digitsFrom, decimalText, placesOf}
+use Rattle.scenario.specs.Lines.{wordText, valuesText, newline, refusedText, hexesText, beginText, lineText, textOf, slotText, verdictText, formText, endText}
+use Rattle.scenario.proofs.Written.{places-at-most}
+use Rattle.scenario.proofs.Texts.{text-append}
+
+-- ---- a text that the page has room for is written whole
+
+written-one : (front : List ℕ) (r : ℕ) (rs : List ℕ) (x n : ℕ) → length front ≡ n → n < pageRoom
+    → pennedOne (pen (front ++ (r ∷ rs)) n) x ≡ pen ((front ++ (x ∷ [])) ++ rs) (n + 1)
+unfolding pennedOne
+written-one front r rs x n e h = simp (lt-ltb n pageRoom h, set-at front r rs x n e, append-snoc front x rs)
+
+written-from : (xs front rest : List ℕ) (n m : ℕ) → length front ≡ n → n + length xs ≡ m → m ≤ pageRoom → length xs ≤ length rest
+    → penned (pen (front ++ rest) n) xs ≡ pen (front ++ (xs ++ drop (length xs) rest)) m
+unfolding penned
+written-from [] front rest n m e f h l = let g : n ≡ m = omega arith in ap (λ (k : ℕ). pen (front ++ rest) k) g
+written-from (x ∷ xs) front [] n m e f h l = absurd (omega arith)
+written-from (x ∷ xs) front (r ∷ rs) n m e f h l =
+    ap (λ (v : Pen). penned v xs) (written-one front r rs x n e (omega arith))
+    ∙ written-from xs (front ++ (x ∷ [])) rs (n + 1) m (omega (arith, length-append front (x ∷ []))) (omega arith) h (omega arith)
+    ∙ ap (λ (v : List ℕ). pen v m) (append-assoc front (x ∷ []) (xs ++ drop (length xs) rs))
+
+-- the text, and behind it the page as it was; the place is the text's length
+pub written-whole : (page xs : List ℕ) → length page ≡ pageRoom → length xs ≤ pageRoom
+    → penned (pen page 0) xs ≡ pen (xs ++ drop (length xs) page) (length xs)
+written-whole page xs e h = written-from xs [] page 0 (length xs) refl (omega arith) h (omega arith)
+
+-- so a caller who is handed the place r finds the text, and nothing else, before it
+pub handed-over : (page exit : List ℕ) (r : ℕ) (xs : List ℕ) → length page ≡ pageRoom → length xs ≤ pageRoom
+    → pen exit r ≡ penned (pen page 0) xs → (r ≡ length xs) × (take r exit ≡ xs)
+handed-over page exit r xs e h f =
+    let g = f ∙ written-whole page xs e h in
+    let n : r ≡ length xs = ap (λ (v : Pen). v .at) g in
+    let w : exit ≡ xs ++ drop (length xs) page = ap (λ (v : Pen). v .page) g in
+    (n, rw (n, w) (take-append-seam xs (drop (length xs) page)))
+
+-- ---- how long the texts are
+
+digits-length : (k n : ℕ) → length (digitsFrom k n) ≡ k
+unfolding digitsFrom
+digits-length zero n = refl
+digits-length (suc k) n = ap suc (digits-length k n)
+
+-- a number takes at most ten digits
+pub decimal-most : (n : ℕ) → length (decimalText n) ≤ 10
+unfolding decimalText
+decimal-most n = omega (arith, digits-length (placesOf n) n, places-at-most n)
+
+hex-length : (b : ℕ) → length (hexText b) ≡ 3
+unfolding hexText
+hex-length b = refl
+
+hexes-length : (bs : List ℕ) → length (hexesText bs) ≡ 3 * length bs
+unfolding hexesText
+hexes-length [] = refl
+hexes-length (b ∷ bs) = omega (arith, length-append (hexText b) (hexesText bs), hex-length b, hexes-length bs)
+
+begin-most : (slot station : ℕ) → length (beginText slot station) ≤ 13
+unfolding beginText
+begin-most slot station = omega (arith, length-append (decimalText slot) (hexText station), decimal-most slot, hex-length station)
+
+-- slot, station and line feed take at most 14
+line-most : (slot : ℕ) (e : Event) → length (lineText slot e) ≤ 14 + length (wordText (e .word)) + length (valuesText (e .word) (e .values))
+unfolding lineText
+line-most slot e =
+    let a = beginText slot (e .station) in
+    let w = wordText (e .word) in
+    let v = valuesText (e .word) (e .values) in
+    omega (arith, length-append (a ++ w ++ v) newline, length-append (a ++ w) v, length-append a w, begin-most slot (e .station))
+
+more-most : (slot : ℕ) (e : Event) (es : List Event) → length (textOf slot (e ∷ es)) ≡ length (lineText slot e) + length (textOf slot es)
+unfolding textOf
+more-most slot e es = length-append (lineText slot e) (textOf slot es)
+
+none-most : (slot : ℕ) → length (textOf slot []) ≡ 0
+unfolding textOf
+none-most slot = refl
+
+-- ---- one station
+
+bytes-most : (t : Telegram) → length (t .load .bytes) ≤ 16 → length (bytesOf (t .load)) ≤ 16
+bytes-most t h = omega (arith, length-take (t .load .nn) (t .load .bytes))
+
+-- what one station is told in a slot takes at most 80 bytes: `4294967295 10 given` with twenty bytes behind it is the longest
+station-most : (slot : ℕ) (told : Told) (a : ℕ) (t : Telegram) → length (t .load .bytes) ≤ 16
+    → length (textOf slot (those false (eventsAs told a t))) + length (textOf slot (those true (eventsAs told a t))) ≤ 80
+station-most slot Silence a t h = omega (arith, none-most slot)
+station-most slot Owns a t h =
+    let e = event a owns [] in omega (arith, none-most slot, more-most slot e [], line-most slot e, hexes-length [])
+station-most slot Taken a t h =
+    let e = event a taken [] in omega (arith, none-most slot, more-most slot e [], line-most slot e, hexes-length [])
+station-most slot (Failed f) a t h =
+    let e = event a failed (numberOf f ∷ []) in
+    omega (arith, none-most slot, more-most slot e [], line-most slot e, decimal-most (numberOf f))
+station-most slot Free a t h =
+    let e = freeEvent a t in omega (arith, none-most slot, more-most slot e [], line-most slot e, hexes-length [])
+station-most slot (FailedFree f) a t h =
+    let e = event a failed (numberOf f ∷ []) in
+    let g = freeEvent a t in
+    omega (
+      arith,
+      none-most slot,
+      more-most slot e (g ∷ []),
+      more-most slot g [],
+      line-most slot e,
+      line-most slot g,
+      decimal-most (numberOf f),
+      hexes-length [],
+    )
+station-most slot Given a t h =
+    let vs = t .qq ∷ t .pb ∷ t .sb ∷ length (bytesOf (t .load)) ∷ bytesOf (t .load) in
+    let e = event a given vs in
+    omega (arith, none-most slot, more-most slot e [], line-most slot e, hexes-length vs, bytes-most t h)
+station-most slot Answered a t h =
+    let vs = t .zz ∷ length (bytesOf (t .load)) ∷ bytesOf (t .load) in
+    let e = event a answer vs in
+    omega (arith, none-most slot, more-most slot e [], line-most slot e, hexes-length vs, bytes-most t h)
+
+-- ---- all stations
+
+-- the array of each station's part has its 16 bytes
+pub data Sized : List Turn → Type 0 where
+  none : Sized []
+  one : {t : Turn} {ts : List Turn} → length (t .station .part .load .bytes) ≡ 16 → Sized ts → Sized (t ∷ ts)
+
+both-lengths : (slot : ℕ) (last : Bool) (t : Turn) (ts : List Turn)
+    → length (textOf slot (linesOf last (t ∷ ts))) ≡ length (textOf slot (those last (tells t))) + length (textOf slot (linesOf last ts))
+both-lengths slot last t ts =
+    ap length (text-append slot (those last (tells t)) (linesOf last ts)) ∙ length-append (textOf slot (those last (tells t))) (textOf slot (linesOf last ts))
+
+stations-most : (slot : ℕ) {ts : List Turn} → Sized ts
+    → length (textOf slot (linesOf false ts)) + length (textOf slot (linesOf true ts)) ≤ 80 * length ts
+unfolding tells
+stations-most slot none = omega (arith, none-most slot)
+stations-most slot (one {t} {ts} h r) =
+    omega (
+      arith,
+      both-lengths slot false t ts,
+      both-lengths slot true t ts,
+      station-most slot (t .told) (t .station .address) (t .station .part) (omega arith),
+      stations-most slot r,
+    )
+
+pub slot-most : (b : Bus) → Sized (attachedTurns b) → length (slotText b) ≤ pageRoom
+unfolding slotText events
+slot-most b h =
+    let s = b .slot in
+    let ts = attachedTurns b in
+    omega (
+      arith,
+      ap length (text-append s (linesOf false ts) (linesOf true ts)),
+      length-append (textOf s (linesOf false ts)) (textOf s (linesOf true ts)),
+      stations-most s h,
+      length-take (attachedTo b) (b .turns),
+      attached-fit b,
+    )
+
+-- ---- the theorems
+
+-- the lines of a slot stand at the page's front, whole, and behind them the page is as it was
+pub page-suffices : (b : Bus) (page : List ℕ) → length page ≡ pageRoom → Sized (attachedTurns b)
+    → penned (pen page 0) (slotText b) ≡ pen (slotText b ++ drop (length (slotText b)) page) (length (slotText b))
+page-suffices b page e h = written-whole page (slotText b) e (slot-most b h)
+
+pub verdict-most : (v : Verdict) → length (verdictText v) ≤ pageRoom
+verdict-most Done = omega arith
+verdict-most (Refused r) =
+    let d = decimalText (refusalNumber r) in
+    omega (arith, length-append (refusedText ++ d) newline, length-append refusedText d, decimal-most (refusalNumber r))
+
+pub verdict-suffices : (v : Verdict) (page : List ℕ) → length page ≡ pageRoom
+    → penned (pen page 0) (verdictText v) ≡ pen (verdictText v ++ drop (length (verdictText v)) page) (length (verdictText v))
+verdict-suffices v page e = written-whole page (verdictText v) e (verdict-most v)
+
+-- `refused`, a number, a second number
+refused-most : (m n : ℕ) → length (refusedText ++ decimalText m ++ (32 ∷ decimalText n) ++ newline) ≤ pageRoom
+refused-most m n =
+    let a = refusedText ++ decimalText m in
+    let d : List ℕ = 32 ∷ decimalText n in
+    omega (arith, length-append (a ++ d) newline, length-append a d, length-append refusedText (decimalText m), decimal-most m, decimal-most n)
+
+pub form-most : (f : Form) → length (formText f) ≤ pageRoom
+form-most Good = omega arith
+form-most (BadField at) = refused-most 14 at
+form-most TooLong = refused-most 15 65536
+
+pub form-suffices : (f : Form) (page : List ℕ) → length page ≡ pageRoom
+    → penned (pen page 0) (formText f) ≡ pen (formText f ++ drop (length (formText f)) page) (length (formText f))
+form-suffices f page e = written-whole page (formText f) e (form-most f)
+
+pub end-most : (slot : ℕ) → length (endText slot) ≤ pageRoom
+unfolding endText
+end-most slot =
+    let w : List ℕ = 101 ∷ 110 ∷ 100 ∷ 32 ∷ [] in
+    omega (arith, length-append (w ++ decimalText slot) newline, length-append w (decimalText slot), decimal-most slot)
+
+pub end-suffices : (slot : ℕ) (page : List ℕ) → length page ≡ pageRoom
+    → penned (pen page 0) (endText slot) ≡ pen (endText slot ++ drop (length (endText slot)) page) (length (endText slot))
+end-suffices slot page e = written-whole page (endText slot) e (end-most slot)

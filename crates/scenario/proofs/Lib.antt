@@ -1,0 +1,5 @@
+pub mod Fields
+pub mod Fits
+pub mod Sample
+pub mod Texts
+pub mod Written

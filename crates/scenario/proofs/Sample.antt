@@ -1,0 +1,68 @@
+-- 01's sample scenario ("Bench program"): its input prints exactly its lines. antt computes it. Assumes nothing.
+use mathlib.Core.Path.{_≡_, refl}
+use mathlib.Core.List.{List, [], _∷_, _++_}
+use Prim.Native.Nat.{ℕ}
+use Rattle.address.specs.Half as addressHalf
+use Rattle.address.specs.Kind as addressKind
+use Rattle.address.specs.Master as addressMaster
+use Rattle.bus.specs.Attach as busAttach
+use Rattle.bus.specs.Bus as busBus
+use Rattle.bus.specs.Events as busEvents
+use Rattle.bus.specs.Find as busFind
+use Rattle.bus.specs.Queue as busQueue
+use Rattle.bus.specs.Reply as busReply
+use Rattle.bus.specs.Slot as busSlot
+use Rattle.crc.specs.Crc as crcCrc
+use Rattle.laws.specs.First as lawsFirst
+use Rattle.scenario.specs.Apply as scenarioApply
+use Rattle.scenario.specs.Field as scenarioField
+use Rattle.scenario.specs.Form as scenarioForm
+use Rattle.scenario.specs.Lines as scenarioLines
+use Rattle.scenario.specs.Output as scenarioOutput
+use Rattle.scenario.specs.Pen as scenarioPen
+use Rattle.station.specs.Events as stationEvents
+use Rattle.station.specs.Hear as stationHear
+use Rattle.station.specs.Judge as stationJudge
+use Rattle.station.specs.Outbox as stationOutbox
+use Rattle.station.specs.Read as stationRead
+use Rattle.station.specs.Replies as stationReplies
+use Rattle.station.specs.Send as stationSend
+use Rattle.station.specs.Station as stationStation
+use Rattle.station.specs.Turn as stationTurn
+use Rattle.wire.specs.Form as wireForm
+use Rattle.wire.specs.Load as wireLoad
+use Rattle.wire.specs.Pair as wirePair
+use Rattle.wire.specs.Reader as wireReader
+use Rattle.wire.specs.Symbol as wireSymbol
+
+-- master 10, slave 08, a reply of 08 to 50 02 with 64, a telegram 10 to 08 with 50 02 and no data, 22 undisturbed slots
+abbrev pub sampleInput : List ℕ
+sampleInput = (0x01 ∷ 0x00 ∷ 0x01 ∷ 0x10 ∷ [])
+    ++ (0x02 ∷ 0x00 ∷ 0x01 ∷ 0x08 ∷ [])
+    ++ (0x03 ∷ 0x00 ∷ 0x04 ∷ 0x08 ∷ 0x50 ∷ 0x02 ∷ 0x64 ∷ [])
+    ++ (0x04 ∷ 0x00 ∷ 0x04 ∷ 0x10 ∷ 0x08 ∷ 0x50 ∷ 0x02 ∷ [])
+    ++ (0x05 ∷ 0x00 ∷ 0x02 ∷ 0x00 ∷ 0x16 ∷ [])
+
+-- ebus bench
+-- 11 10 owns
+-- 17 10 taken
+-- 17 08 given 10 50 02 00
+-- 21 08 taken
+-- 21 10 answer 08 01 64
+-- 22 10 free
+-- end 22
+abbrev pub sampleOutput : List ℕ
+sampleOutput =
+    (101 ∷ 98 ∷ 117 ∷ 115 ∷ 32 ∷ 98 ∷ 101 ∷ 110 ∷ 99 ∷ 104 ∷ 10 ∷ [])
+    ++ (49 ∷ 49 ∷ 32 ∷ 49 ∷ 48 ∷ 32 ∷ 111 ∷ 119 ∷ 110 ∷ 115 ∷ 10 ∷ [])
+    ++ (49 ∷ 55 ∷ 32 ∷ 49 ∷ 48 ∷ 32 ∷ 116 ∷ 97 ∷ 107 ∷ 101 ∷ 110 ∷ 10 ∷ [])
+    ++ (49 ∷ 55 ∷ 32 ∷ 48 ∷ 56 ∷ 32 ∷ 103 ∷ 105 ∷ 118 ∷ 101 ∷ 110 ∷ 32 ∷ 49 ∷ 48 ∷ 32 ∷ 53 ∷ 48 ∷ 32 ∷ 48 ∷ 50 ∷ 32 ∷ 48 ∷ 48 ∷ 10 ∷ [])
+    ++ (50 ∷ 49 ∷ 32 ∷ 48 ∷ 56 ∷ 32 ∷ 116 ∷ 97 ∷ 107 ∷ 101 ∷ 110 ∷ 10 ∷ [])
+    ++ (50 ∷ 49 ∷ 32 ∷ 49 ∷ 48 ∷ 32 ∷ 97 ∷ 110 ∷ 115 ∷ 119 ∷ 101 ∷ 114 ∷ 32 ∷ 48 ∷ 56 ∷ 32 ∷ 48 ∷ 49 ∷ 32 ∷ 54 ∷ 52 ∷ 10 ∷ [])
+    ++ (50 ∷ 50 ∷ 32 ∷ 49 ∷ 48 ∷ 32 ∷ 102 ∷ 114 ∷ 101 ∷ 101 ∷ 10 ∷ [])
+    ++ (101 ∷ 110 ∷ 100 ∷ 32 ∷ 50 ∷ 50 ∷ 10 ∷ [])
+
+-- every definition on the way from the input to the lines is unfolded, and the two sides are the same bytes
+pub sample : scenarioOutput.output sampleInput ≡ sampleOutput
+unfolding addressHalf.halfIndex addressHalf.classOf addressHalf.subOf addressKind.kindOf addressMaster.isMaster addressMaster.slaveOf addressMaster.rankOf addressMaster.masterAt busAttach.noSuchAddress busAttach.occupied busAttach.newcomer busAttach.takesSeat busAttach.attaches busBus.poweredOn busBus.attachedTo busBus.turnAt busBus.withTurn busBus.refusedBy busBus.done busEvents.events busFind.slaveAddress busFind.isMasterAt busFind.firstOf busFind.thereIs busQueue.unusable busQueue.noTarget busQueue.noCommand busQueue.holds busQueue.queuesTelegram busQueue.queuesFrom busQueue.queues busReply.writes busReply.repliesFrom busReply.replies busSlot.generatorSays busSlot.spoken busSlot.slotHeard busSlot.slotRun crcCrc.timesX crcCrc.timesXⁿ crcCrc.crcStep crcCrc.crcFrom crcCrc.crcOf lawsFirst.firstFrom scenarioApply.bytesFrom scenarioApply.applied scenarioField.byteAt scenarioField.pairAt scenarioField.valueOf scenarioField.fieldAt scenarioForm.formFrom scenarioForm.formOf scenarioLines.hexesText scenarioLines.beginText scenarioLines.lineText scenarioLines.textOf scenarioLines.slotText scenarioLines.endText scenarioOutput.ran scenarioOutput.printedFrom scenarioOutput.output scenarioPen.hexDigit scenarioPen.hexText scenarioPen.placesOf scenarioPen.digitAt scenarioPen.digitsFrom scenarioPen.decimalText stationEvents.tells stationHear.admits stationHear.restarted stationHear.hearSyn stationHear.hearQuiet stationHear.noted stationHear.hearReading stationHear.hearSymbol stationHear.hears stationJudge.handedOut stationJudge.judgedTaken stationJudge.readAgain stationJudge.judges stationOutbox.noneHeld stationOutbox.heldIn stationOutbox.waiting stationOutbox.accepted stationOutbox.oldestOf stationOutbox.dropped stationRead.forAll stationRead.answered stationRead.isOwn stationRead.unread stationRead.whole stationRead.addressed stationRead.readOn stationRead.reads stationReplies.noEntries stationReplies.isFor stationReplies.countIn stationReplies.entryOf stationReplies.entryAt stationReplies.withEntry stationReplies.added stationReplies.written stationReplies.answerFor stationSend.left stationSend.released stationSend.disturbed stationSend.failed stationSend.owned stationSend.withdrawn stationSend.hearBid stationSend.sentWhole stationSend.sent stationSend.hearOwn stationSend.taken stationSend.refused stationSend.hearReply stationStation.fresh stationStation.answering stationStation.ready stationStation.bids stationStation.sayBid stationStation.due stationStation.acknowledgement stationStation.says wireForm.covered wireForm.form wireForm.countOf wireForm.telegramForm wireForm.answerForm wireForm.holding wireForm.appended wireLoad.fitting wireLoad.loadOf wirePair.expandOne wirePair.expand wirePair.undoFirst wirePair.undoSecond wirePair.undo wireReader.masterStart wireReader.answerStart wireReader.ended wireReader.more wireReader.onward wireReader.placeAfter wireReader.readQq wireReader.readNn wireReader.readByte wireReader.readData wireReader.readCrc wireReader.readEscape wireReader.readOther wireReader.readOne wireSymbol.kindOf stationTurn.goes
+sample = refl

@@ -1,0 +1,82 @@
+-- Bytes written one behind the other: two texts are written as the one that they make, and a loop writes its text piece by piece.
+-- Assumes nothing.
+use mathlib.Core.Path.{_≡_, refl, sym, ap, _∙_}
+use mathlib.Core.Bool.{Bool, true, false, cond}
+use mathlib.Core.List.{List, [], _∷_, _++_}
+use Prim.Native.Nat.{ℕ, zero, suc, _+_, _-_, _/_, _≤_, _<_}
+use native.Mathlib.Numerals.{add-one}
+use native.Mathlib.Omega.{arith}
+use lib.Dec.{ltb}
+use lib.ListN.{length, getD, take, drop, length-take}
+use lib.Seq.{drop-cons, getD-take}
+use Rattle.scenario.specs.Pen.{Pen, pennedOne, penned, hexDigit, hexText, placesOf, digitAt, digitsFrom}
+
+pub penned-append : (p : Pen) (xs ys : List ℕ) → penned (penned p xs) ys ≡ penned p (xs ++ ys)
+unfolding penned
+penned-append p [] ys = refl
+penned-append p (x ∷ xs) ys = penned-append (pennedOne p x) xs ys
+
+-- nothing is written
+pub nothing : (p : Pen) → p ≡ penned p []
+unfolding penned
+nothing p = refl
+
+-- a text, and behind it another
+pub both : (p : Pen) (xs ys : List ℕ) {q r : Pen} → q ≡ penned p xs → r ≡ penned q ys → r ≡ penned p (xs ++ ys)
+both p xs ys {q} {r} e f = f ∙ ap (λ (v : Pen). penned v ys) e ∙ penned-append p xs ys
+
+-- a byte in two hex digits
+pub hex-written : (p : Pen) (x a b : ℕ) {q r s : Pen} → a ≡ hexDigit (x / 16) → b ≡ hexDigit x
+    → q ≡ penned p (32 ∷ []) → r ≡ penned q (a ∷ []) → s ≡ penned r (b ∷ []) → s ≡ penned p (hexText x)
+unfolding hexText
+hex-written p x a b {q} {r} {s} h l e f g =
+    both p (32 ∷ a ∷ []) (b ∷ []) (both p (32 ∷ []) (a ∷ []) e f) g ∙ ap (λ (v : ℕ). penned p (32 ∷ v ∷ b ∷ [])) h
+    ∙ ap (λ (v : ℕ). penned p (32 ∷ hexDigit (x / 16) ∷ v ∷ [])) l
+
+-- ---- in a loop
+
+-- one piece of what is left to write is written
+pub piece : (p : Pen) (xs ys zs : List ℕ) {q : Pen} → q ≡ penned p xs → zs ≡ xs ++ ys → penned q ys ≡ penned p zs
+piece p xs ys zs {q} e f = ap (λ (v : Pen). penned v ys) e ∙ penned-append p xs ys ∙ ap (λ (v : List ℕ). penned p v) (sym f)
+
+-- nothing is left to write
+pub finished : (p : Pen) (xs : List ℕ) {q : Pen} → xs ≡ [] → penned p xs ≡ q → p ≡ q
+unfolding penned
+finished p xs {q} e f = sym (ap (λ (v : List ℕ). penned p v) e) ∙ f
+
+-- what is left of a list, and of the first n of a list
+pub left-of : {A : Type 0} (l : List A) (i : ℕ) (d : A) → i < length l → drop i l ≡ getD l i d ∷ drop (i + 1) l
+left-of l i d h = rw add-one (drop-cons l i d h)
+
+pub left-of-first : {A : Type 0} (l : List A) (n i : ℕ) (d : A) → n ≤ length l → i < n
+    → drop i (take n l) ≡ getD l i d ∷ drop (i + 1) (take n l)
+left-of-first {A} l n i d f h =
+    let e : i < length (take n l) = simp length-take (omega arith) in
+    left-of (take n l) i d e ∙ ap (λ (a : A). a ∷ drop (i + 1) (take n l)) (getD-take n l i d h)
+
+-- ---- digits
+
+-- at most ten digits
+at-most : (b : Bool) (k m : ℕ) → k ≤ 10 → m ≤ 10 → cond b k m ≤ 10
+at-most true k m h l = h
+at-most false k m h l = l
+
+pub places-at-most : (n : ℕ) → placesOf n ≤ 10
+unfolding placesOf
+places-at-most n =
+    at-most (ltb n 10) 1 _ (omega arith)
+    (at-most (ltb n 100) 2 _ (omega arith)
+    (at-most (ltb n 1000) 3 _ (omega arith)
+    (at-most (ltb n 10000) 4 _ (omega arith)
+    (at-most (ltb n 100000) 5 _ (omega arith)
+    (at-most (ltb n 1000000) 6 _ (omega arith)
+    (at-most (ltb n 10000000) 7 _ (omega arith)
+    (at-most (ltb n 100000000) 8 _ (omega arith)
+    (at-most (ltb n 1000000000) 9 10 (omega arith) (omega arith)))))))))
+
+pub digits-next : (k n : ℕ) → 0 < k → digitsFrom k n ≡ digitAt n (k - 1) ∷ digitsFrom (k - 1) n
+unfolding digitsFrom
+digits-next zero n h = absurd (omega arith)
+digits-next (suc k) n h =
+    let e : suc k - 1 ≡ k = omega arith in
+    rw e

@@ -1,0 +1,30 @@
+// The stored scenarios, each named and run as the bench program runs it. Its arguments are their file names.
+use libc::STDOUT_FILENO;
+
+const INPUT: usize = 65537;
+
+fn main() {
+    let n = os::arg_count();
+    let mut i: usize = 1;
+    while i < n {
+        scenario_named(i);
+        i += 1;
+    }
+}
+
+fn scenario_named(i: usize) {
+    let mut path = io::buffer();
+    let length = os::arg(i, &mut path);
+    io::write_all(STDOUT_FILENO, b"== ");
+    io::write_all(STDOUT_FILENO, &path[..length]);
+    io::write_all(STDOUT_FILENO, b"\n");
+    let fd = os::open_read(&path[..length]);
+    if fd < 0 {
+        os::fail(&path[..length]);
+        return;
+    }
+    let mut input = [0u8; INPUT];
+    let got = io::read_full(fd, &mut input);
+    libc::close(fd);
+    desk::run(&input[..got]);
+}

@@ -1,0 +1,106 @@
+//! How often each event and each refusal came up.
+
+use crate::event::{Event, Role, Word};
+use std::fmt;
+
+/// There is no refusal 13.
+const NAMES: [&str; 30] = [
+    "owns",
+    "taken-owner",
+    "taken-slave",
+    "failed-owner-1",
+    "failed-owner-2",
+    "failed-owner-3",
+    "failed-owner-4",
+    "failed-owner-5",
+    "failed-slave-1",
+    "failed-slave-2",
+    "failed-slave-3",
+    "failed-slave-4",
+    "free",
+    "given-one",
+    "given-broadcast",
+    "answer",
+    "refused-1",
+    "refused-2",
+    "refused-3",
+    "refused-4",
+    "refused-5",
+    "refused-6",
+    "refused-7",
+    "refused-8",
+    "refused-9",
+    "refused-10",
+    "refused-11",
+    "refused-12",
+    "refused-14",
+    "refused-15",
+];
+
+const FAILED_OWNER: usize = 2;
+const FAILED_SLAVE: usize = 7;
+const REFUSED: usize = 15;
+
+/// The longest part has 39 symbols, so nothing exceeds the wire buffer.
+const UNREACHABLE: &str = "refused-6";
+
+#[derive(Clone, Default)]
+pub struct Coverage {
+    scenarios: u64,
+    counts: [u64; NAMES.len()],
+}
+
+fn place_of(event: &Event) -> usize {
+    match event.word {
+        Word::Owns => 0,
+        Word::Taken(Role::Owner) => 1,
+        Word::Taken(Role::Slave) => 2,
+        Word::Failed(Role::Owner, number) => FAILED_OWNER + number as usize,
+        Word::Failed(Role::Slave, number) => FAILED_SLAVE + number as usize,
+        Word::Free => 12,
+        Word::Given { broadcast: false, .. } => 13,
+        Word::Given { broadcast: true, .. } => 14,
+        Word::Answer { .. } => 15,
+    }
+}
+
+impl Coverage {
+    pub fn scenario(&mut self) {
+        self.scenarios += 1;
+    }
+
+    pub fn event(&mut self, event: &Event) {
+        self.counts[place_of(event)] += 1;
+    }
+
+    pub fn refusal(&mut self, number: u8) {
+        let without_13 = if number > 13 { number - 1 } else { number };
+        self.counts[REFUSED + without_13 as usize] += 1;
+    }
+
+    pub fn add(&mut self, other: &Coverage) {
+        self.scenarios += other.scenarios;
+        for (mine, theirs) in self.counts.iter_mut().zip(other.counts) {
+            *mine += theirs;
+        }
+    }
+
+    /// What a wild enough maker should have reached and has not.
+    pub fn missing(&self) -> Vec<&'static str> {
+        let named = NAMES.iter().zip(self.counts);
+        named
+            .filter(|(name, count)| *count == 0 && **name != UNREACHABLE)
+            .map(|(name, _)| *name)
+            .collect()
+    }
+}
+
+impl fmt::Display for Coverage {
+    fn fmt(&self, f: &mut fmt::Formatter) -> fmt::Result {
+        write!(f, "coverage scenarios={}", self.scenarios)?;
+        for (name, count) in NAMES.iter().zip(self.counts) {
+            write!(f, " {name}={count}")?;
+        }
+        Ok(())
+    }
+}

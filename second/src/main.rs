@@ -1,0 +1,123 @@
+//! Second implementation of the eBUS link layer bench, for comparison.
+
+mod bench;
+mod bus;
+mod compare;
+mod coverage;
+mod event;
+mod intake;
+mod lines;
+mod maker;
+mod random;
+mod scenario;
+mod stored;
+mod table;
+#[cfg(test)]
+mod tests;
+mod timing;
+mod transfer;
+mod wire;
+
+use std::fs::File;
+use std::io::{self, Read, Write};
+use std::path::Path;
+use std::process::ExitCode;
+
+const USAGE: &str = "usage:
+  second run                                   scenario on standard input
+  second make SEED                             scenario on standard output
+  second compare N SEED PROGRAM [KEEP_DIR]     against another program
+  second coverage N SEED                       what N scenarios reach
+  second lines FILE...                         the lines of scenario files
+  second stored DIR                            writes the stored scenarios
+  second bench PROGRAM                         times another program";
+
+fn main() -> ExitCode {
+    let args: Vec<String> = std::env::args().skip(1).collect();
+    let words: Vec<&str> = args.iter().map(String::as_str).collect();
+    match dispatch(&words) {
+        Some(Ok(code)) => code,
+        Some(Err(error)) => {
+            eprintln!("second: {error}");
+            ExitCode::from(2)
+        }
+        None => {
+            eprintln!("{USAGE}");
+            ExitCode::from(2)
+        }
+    }
+}
+
+/// None if the words make no command.
+fn dispatch(words: &[&str]) -> Option<io::Result<ExitCode>> {
+    match *words {
+        ["run"] => Some(run()),
+        ["make", seed] => {
+            let seed = seed.parse().ok()?;
+            Some(print(&maker::make(seed)))
+        }
+        ["coverage", count, seed] => {
+            let (count, seed) = (count.parse().ok()?, seed.parse().ok()?);
+            Some(show_coverage(count, seed))
+        }
+        ["compare", count, seed, program, ref rest @ ..] if rest.len() <= 1 => {
+            let (count, seed) = (count.parse().ok()?, seed.parse().ok()?);
+            let keep = Path::new(rest.first().copied().unwrap_or("."));
+            Some(compare::compare(count, seed, program, keep).map(code))
+        }
+        ["lines", ref files @ ..] if !files.is_empty() => Some(show_lines(files)),
+        ["stored", dir] => Some(stored::store(Path::new(dir)).map(code)),
+        ["bench", program] => Some(timing::time(program).map(code)),
+        _ => None,
+    }
+}
+
+fn code(good: bool) -> ExitCode {
+    if good {
+        ExitCode::SUCCESS
+    } else {
+        ExitCode::FAILURE
+    }
+}
+
+fn print(bytes: &[u8]) -> io::Result<ExitCode> {
+    let mut out = io::stdout().lock();
+    out.write_all(bytes)?;
+    out.flush()?;
+    Ok(ExitCode::SUCCESS)
+}
+
+/// One byte more than allowed is enough to see that a file is too long.
+fn read(source: impl Read) -> io::Result<Vec<u8>> {
+    let mut bytes = Vec::new();
+    source.take(scenario::MAX_BYTES as u64 + 1).read_to_end(&mut bytes)?;
+    Ok(bytes)
+}
+
+fn run() -> io::Result<ExitCode> {
+    let (out, _) = bench::run(&read(io::stdin().lock())?);
+    print(&out)
+}
+
+fn show_lines(files: &[&str]) -> io::Result<ExitCode> {
+    let mut out = Vec::new();
+    for file in files {
+        let path = Path::new(file);
+        let named = |e: io::Error| io::Error::new(e.kind(), format!("{file}: {e}"));
+        let bytes = File::open(path).and_then(read).map_err(named)?;
+        let name = path.file_name().unwrap_or_default().to_string_lossy();
+        stored::push_lines(&mut out, &name, &bytes);
+    }
+    print(&out)
+}
+
+/// Fails if something stays at 0 that the maker ought to reach.
+fn show_coverage(count: u64, seed: u64) -> io::Result<ExitCode> {
+    let total = compare::coverage(count, seed);
+    println!("{total}");
+    let missing = total.missing();
+    if !missing.is_empty() {
+        println!("never: {}", missing.join(" "));
+    }
+    Ok(code(missing.is_empty()))
+}

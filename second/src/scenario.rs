@@ -1,0 +1,79 @@
+//! The scenario file: fields of tag, length and value.
+
+pub const MAX_BYTES: usize = 65_536;
+
+/// One field of a scenario, already found to be of good form.
+#[derive(Clone, Copy, Debug, PartialEq, Eq)]
+pub enum Op<'a> {
+    Master(u8),
+    Slave(u8),
+    Reply { address: u8, pb: u8, sb: u8, data: &'a [u8] },
+    Queue { head: [u8; 4], data: &'a [u8] },
+    Run(u16),
+    Heard(u8),
+    Quiet,
+}
+
+/// Why a file is not run: the refusal and the number printed after it.
+#[derive(Clone, Copy, Debug, PartialEq, Eq)]
+pub struct BadForm {
+    pub refusal: u8,
+    pub offset: usize,
+}
+
+/// The whole file is looked at before anything is run.
+pub fn parse(bytes: &[u8]) -> Result<Vec<Op<'_>>, BadForm> {
+    if bytes.len() > MAX_BYTES {
+        return Err(BadForm { refusal: 15, offset: MAX_BYTES });
+    }
+    let mut ops = Vec::new();
+    let mut offset = 0;
+    while offset < bytes.len() {
+        let (op, size) = field(&bytes[offset..]).ok_or(BadForm { refusal: 14, offset })?;
+        ops.push(op);
+        offset += size;
+    }
+    Ok(ops)
+}
+
+/// The first field of the rest and its size; none if it is cut or wrong.
+fn field(rest: &[u8]) -> Option<(Op<'_>, usize)> {
+    let (&[tag, high, low], after) = rest.split_first_chunk::<3>()?;
+    let len = u16::from_be_bytes([high, low]) as usize;
+    let value = after.get(..len)?;
+    Some((operation(tag, value)?, 3 + len))
+}
+
+fn operation(tag: u8, value: &[u8]) -> Option<Op<'_>> {
+    Some(match (tag, value) {
+        (0x01, &[address]) => Op::Master(address),
+        (0x02, &[address]) => Op::Slave(address),
+        (0x03, &[address, pb, sb, ref data @ ..]) => Op::Reply { address, pb, sb, data },
+        (0x04, &[qq, zz, pb, sb, ref data @ ..]) => Op::Queue { head: [qq, zz, pb, sb], data },
+        (0x05, &[high, low]) => Op::Run(u16::from_be_bytes([high, low])),
+        (0x06, &[symbol]) => Op::Heard(symbol),
+        (0x07, &[]) => Op::Quiet,
+        _ => return None,
+    })
+}
+
+/// The other way round: one field at the end of a file.
+pub fn write(out: &mut Vec<u8>, op: &Op) {
+    match *op {
+        Op::Master(address) => push_field(out, 0x01, &[address], &[]),
+        Op::Slave(address) => push_field(out, 0x02, &[address], &[]),
+        Op::Reply { address, pb, sb, data } => push_field(out, 0x03, &[address, pb, sb], data),
+        Op::Queue { head, data } => push_field(out, 0x04, &head, data),
+        Op::Run(count) => push_field(out, 0x05, &count.to_be_bytes(), &[]),
+        Op::Heard(symbol) => push_field(out, 0x06, &[symbol], &[]),
+        Op::Quiet => push_field(out, 0x07, &[], &[]),
+    }
+}
+
+fn push_field(out: &mut Vec<u8>, tag: u8, start: &[u8], rest: &[u8]) {
+    let len = (start.len() + rest.len()) as u16;
+    out.push(tag);
+    out.extend_from_slice(&len.to_be_bytes());
+    out.extend_from_slice(start);
+    out.extend_from_slice(rest);
+}

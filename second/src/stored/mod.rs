@@ -1,0 +1,167 @@
+//! The stored scenarios: small files that show one thing each, with the lines
+//! they must give, worked out by hand from 01.
+//!
+//! To add one, write an entry into the list it belongs to and a row into the
+//! README beside the files, then run `second stored DIR`.
+
+mod access;
+mod answers;
+mod calls;
+mod form;
+mod parts;
+mod text;
+
+use crate::bench;
+use std::collections::BTreeSet;
+use std::fs;
+use std::io;
+use std::path::Path;
+
+pub struct Entry {
+    pub name: &'static str,
+    /// What the file is there for; only for those who read the list.
+    pub _shows: &'static str,
+    /// The bytes; see `text::bytes`.
+    pub hex: &'static str,
+    /// The lines after the header, with slashes between them.
+    pub lines: &'static str,
+}
+
+const fn entry(
+    name: &'static str,
+    shows: &'static str,
+    hex: &'static str,
+    lines: &'static str,
+) -> Entry {
+    Entry { name, _shows: shows, hex, lines }
+}
+
+impl Entry {
+    fn file(&self) -> String {
+        format!("{}.bin", self.name)
+    }
+
+    fn expected(&self) -> Vec<u8> {
+        text::lines(self.lines).into_bytes()
+    }
+}
+
+pub fn entries() -> impl Iterator<Item = &'static Entry> {
+    let lists = [form::ENTRIES, calls::ENTRIES, access::ENTRIES, parts::ENTRIES, answers::ENTRIES];
+    lists.into_iter().flatten()
+}
+
+/// One file's share of what `second lines` prints.
+pub fn push_lines(out: &mut Vec<u8>, name: &str, scenario: &[u8]) {
+    out.extend_from_slice(format!("== {name}\n").as_bytes());
+    out.extend_from_slice(&bench::run(scenario).0);
+}
+
+/// Writes the files, their order and their lines below the folder. False if
+/// the simulator gives other lines than the list, or if the README or the
+/// folder names other files than the list.
+pub fn store(dir: &Path) -> io::Result<bool> {
+    let data = dir.join("data");
+    fs::create_dir_all(&data)?;
+    let (mut args, mut stdout) = (String::new(), Vec::new());
+    let mut good = true;
+    for entry in entries() {
+        let scenario = text::bytes(entry.hex);
+        if bench::run(&scenario).0 != entry.expected() {
+            println!("{}: other lines than the list has", entry.name);
+            good = false;
+        }
+        fs::write(data.join(entry.file()), &scenario)?;
+        args += &format!("{}\n", entry.file());
+        push_lines(&mut stdout, &entry.file(), &scenario);
+    }
+    fs::write(dir.join("args"), args)?;
+    fs::write(dir.join("stdout"), stdout)?;
+    println!("{} files written", entries().count());
+    Ok(same_files("README.md", named(&data.join("README.md"))?)
+        & same_files("the folder", present(&data)?)
+        & good)
+}
+
+/// The files named in the first column of the README's tables.
+fn named(readme: &Path) -> io::Result<BTreeSet<String>> {
+    let text = fs::read_to_string(readme).or_else(|error| match error.kind() {
+        io::ErrorKind::NotFound => Ok(String::new()),
+        _ => Err(error),
+    })?;
+    Ok(rows(&text))
+}
+
+fn rows(text: &str) -> BTreeSet<String> {
+    let cells = text.lines().filter_map(|line| line.strip_prefix("| `")?.split_once("` |"));
+    cells.map(|(file, _)| file.to_string()).collect()
+}
+
+fn present(data: &Path) -> io::Result<BTreeSet<String>> {
+    let mut files = BTreeSet::new();
+    for item in fs::read_dir(data)? {
+        let name = item?.file_name().to_string_lossy().into_owned();
+        if name.ends_with(".bin") {
+            files.insert(name);
+        }
+    }
+    Ok(files)
+}
+
+fn same_files(place: &str, found: BTreeSet<String>) -> bool {
+    let listed: BTreeSet<String> = entries().map(Entry::file).collect();
+    for file in listed.difference(&found) {
+        println!("{place} lacks {file}");
+    }
+    for file in found.difference(&listed) {
+        println!("{place} has {file}, which is not in the list");
+    }
+    listed == found
+}
+
+#[cfg(test)]
+mod tests {
+    use super::*;
+    use crate::coverage::Coverage;
+
+    #[test]
+    fn every_event_and_refusal_is_there() {
+        let mut total = Coverage::default();
+        for entry in entries() {
+            total.add(&bench::run(&text::bytes(entry.hex)).1);
+        }
+        assert_eq!(total.missing().join(" "), "");
+    }
+
+    #[test]
+    fn lines_are_those_of_the_list() {
+        for entry in entries() {
+            let printed = bench::run(&text::bytes(entry.hex)).0;
+            let printed = String::from_utf8(printed).unwrap();
+            assert_eq!(printed, text::lines(entry.lines), "{}", entry.name);
+        }
+    }
+
+    #[test]
+    fn names_are_plain_and_differ() {
+        let names: BTreeSet<&str> = entries().map(|entry| entry.name).collect();
+        assert_eq!(names.len(), entries().count());
+        let plain = |c: char| c.is_ascii_lowercase() || c.is_ascii_digit() || c == '-';
+        assert!(names.iter().all(|name| name.chars().all(plain)));
+    }
+
+    #[test]
+    fn sizes() {
+        let size = |name| text::bytes(entries().find(|e| e.name == name).unwrap().hex).len();
+        assert_eq!(size("empty"), 0);
+        assert_eq!(size("size-65536"), 65_536);
+        assert_eq!(size("size-65537"), 65_537);
+        assert_eq!(size("long-run"), 65_535);
+    }
+
+    #[test]
+    fn readme_rows() {
+        let text = "| File | Shows |\n|---|---|\n| `a.bin` | x |\ntext `c.bin`\n| `b.bin` | y |\n";
+        assert_eq!(rows(text), BTreeSet::from(["a.bin".to_string(), "b.bin".to_string()]));
+    }
+}

@@ -1,0 +1,210 @@
+//! Telegrams that no attached master sends, heard slot by slot. SYN is heard
+//! in slot 1, QQ in 2.
+
+use super::*;
+
+const P1: [u8; 6] = [0x10, 0x08, 0x50, 0x02, 0x00, 0x38];
+const P1_BAD: [u8; 6] = [0x10, 0x08, 0x50, 0x02, 0x00, 0x39];
+
+/// Slave 08 with the reply of the sample, then SYN, the symbols, the rest.
+fn after(symbols: &[u8], rest: &[Op<'static>]) -> Vec<Op<'static>> {
+    let mut ops = vec![slave(0x08), reply(&[0x08, 0x50, 0x02, 0x64]), heard(0xAA)];
+    ops.extend(all_heard(symbols));
+    ops.extend_from_slice(rest);
+    ops
+}
+
+#[test]
+fn slave_answers_a_foreign_master() {
+    // 8: 00 of the slave; 9 to 11 its answer; 12 decides.
+    let given = "8 08 given 10 50 02 00";
+    let ack = |symbol| after(&P1, &[run(4), heard(symbol)]);
+    expect(&ack(0x00), &[given, "12 08 taken", "end 12"]);
+    expect(&ack(0x05), &[given, "12 08 failed 2", "end 12"]);
+    expect(&ack(0xAA), &[given, "12 08 failed 4", "end 12"]);
+    let twice = after(&P1, &[run(4), heard(0xFF), run(3), heard(0xFF)]);
+    expect(&twice, &[given, "16 08 failed 3", "end 16"]);
+    let broken = after(&P1, &[run(2), heard(0x63), run(3)]);
+    expect(&broken, &[given, "10 08 failed 1", "end 13"]);
+}
+
+#[test]
+fn second_reading_damaged() {
+    // 2 to 7 damaged, 8 FF, 9 to 14 damaged, 15 FF: silent, nothing given.
+    let mut ops = after(&P1_BAD, &[run(1)]);
+    ops.extend(all_heard(&P1_BAD));
+    ops.extend([run(1), heard(0x00)]);
+    expect(&ops, &["end 16"]);
+}
+
+#[test]
+fn ack_after_a_damaged_second_reading() {
+    // First reading sound but FF heard; second damaged and 00 heard.
+    let mut ops = after(&P1, &[heard(0xFF)]);
+    ops.extend(all_heard(&P1_BAD));
+    ops.extend([heard(0x00), run(3)]);
+    expect(&ops, &["end 18"]);
+}
+
+#[test]
+fn second_reading_sound() {
+    let mut ops = after(&P1_BAD, &[run(1)]);
+    ops.extend(all_heard(&P1));
+    ops.push(run(1));
+    expect(&ops, &["15 08 given 10 50 02 00", "end 15"]);
+}
+
+#[test]
+fn over_long_part_gets_ff() {
+    // NN 11 (17) in 6: FF in 7 and the part again from 8 to 13; 14: 00.
+    let mut ops = after(&[0x10, 0x08, 0x50, 0x02, 0x11], &[run(1)]);
+    ops.extend(all_heard(&P1));
+    ops.push(run(1));
+    expect(&ops, &["14 08 given 10 50 02 00", "end 14"]);
+    // 00 heard instead of that FF: silent, nothing given.
+    let mut ops = after(&[0x10, 0x08, 0x50, 0x02, 0xA9], &[heard(0x00)]);
+    ops.extend(all_heard(&P1));
+    ops.push(run(1));
+    expect(&ops, &["end 14"]);
+}
+
+#[test]
+fn repetition_is_read_in_full() {
+    // Another source the second time: it is the one handed out.
+    let mut ops = after(&P1_BAD, &[run(1)]);
+    ops.extend(all_heard(&[0x30, 0x08, 0x50, 0x02, 0x00, 0x71]));
+    ops.push(run(1));
+    expect(&ops, &["15 08 given 30 50 02 00", "end 15"]);
+    // Another target: silent.
+    let mut ops = after(&P1_BAD, &[run(1)]);
+    ops.extend(all_heard(&[0x10, 0x36, 0x50, 0x02, 0x00, 0x6F]));
+    ops.extend([run(1), heard(0x00)]);
+    expect(&ops, &["end 16"]);
+    // No master as source: silent.
+    let mut ops = after(&P1_BAD, &[run(1)]);
+    ops.extend(all_heard(&[0x20, 0x08, 0x50, 0x02, 0x00]));
+    ops.push(run(2));
+    expect(&ops, &["end 15"]);
+}
+
+#[test]
+fn repetition_as_broadcast_reaches_only_who_is_in_step() {
+    // 30 fell silent in the first attempt, 08 did not.
+    let mut ops = vec![master(0x30), slave(0x08), heard(0xAA)];
+    ops.extend(all_heard(&P1_BAD));
+    ops.push(run(1));
+    ops.extend(all_heard(&[0x10, 0xFE, 0x50, 0x02, 0x00, 0xFD]));
+    expect(&ops, &["14 08 given 10 50 02 00", "end 14"]);
+}
+
+#[test]
+fn broadcast_without_owner_reaches_all() {
+    let mut ops = vec![slave(0x08), master(0x10), master(0x30), heard(0xAA)];
+    ops.extend(all_heard(&[0x10, 0xFE, 0x50, 0x02, 0x00, 0xFD]));
+    let lines =
+        ["7 08 given 10 50 02 00", "7 10 given 10 50 02 00", "7 30 given 10 50 02 00", "end 7"];
+    expect(&ops, &lines);
+}
+
+#[test]
+fn damaged_or_over_long_broadcast_gives_silence() {
+    let mut ops = vec![slave(0x08), heard(0xAA)];
+    ops.extend(all_heard(&[0x10, 0xFE, 0x50, 0x02, 0x00, 0xFC]));
+    ops.extend([run(1), heard(0x00)]);
+    expect(&ops, &["end 9"]);
+    // No FF in 7, so nothing begins again in 8.
+    let mut ops = vec![slave(0x08), heard(0xAA)];
+    ops.extend(all_heard(&[0x10, 0xFE, 0x50, 0x02, 0x11]));
+    ops.push(run(1));
+    ops.extend(all_heard(&P1));
+    ops.push(run(1));
+    expect(&ops, &["end 14"]);
+}
+
+#[test]
+fn what_gives_silence() {
+    let silent: [&[u8]; 6] = [
+        &[0x20, 0x08, 0x50, 0x02, 0x00],
+        &[0x10, 0xA9, 0x08, 0x50, 0x02, 0x00],
+        &[0x10, 0x08, 0xA9, 0x02, 0x00, 0x00],
+        &[0x10, 0x08, 0x50, 0xA9, 0x00, 0x00],
+        &[0x10, 0x08, 0x50, 0x02, 0x01, 0xA9, 0x02],
+        &[0x10, 0x08, 0x50, 0x02, 0x00, 0xA9, 0xFF],
+    ];
+    for symbols in silent {
+        // Were a reader left, it would sooner or later answer for itself.
+        let mut ops = after(symbols, &[]);
+        ops.extend(all_heard(&[0x00; 12]));
+        let end = format!("end {}", symbols.len() + 13);
+        expect(&ops, &[&end]);
+    }
+}
+
+#[test]
+fn quiet_slots_are_skipped() {
+    let mut ops = vec![slave(0x08), heard(0xAA), quiet()];
+    for symbol in P1 {
+        ops.extend([heard(symbol), quiet()]);
+    }
+    // The quiet slot 14 is the acknowledgement slot: 00 comes too late to be
+    // the reader's, but counts. Its answer 00 00 begins in 16.
+    ops.extend([heard(0x00), run(2), heard(0x00)]);
+    expect(&ops, &["15 08 given 10 50 02 00", "18 08 taken", "end 18"]);
+}
+
+#[test]
+fn master_reads_its_own_source_address() {
+    // No rule makes a station deaf to its own QQ when it does not own.
+    // 31 15 50 02 00 A4 and 10 15 50 02 00 62.
+    let mut ops = vec![master(0x10), heard(0xAA)];
+    ops.extend(all_heard(&[0x10, 0x15, 0x50, 0x02, 0x00, 0x62]));
+    ops.extend([run(3), heard(0x00)]);
+    expect(&ops, &["8 10 given 10 50 02 00", "11 10 taken", "end 11"]);
+}
+
+#[test]
+fn loser_reads_the_winner() {
+    // 10 wants the wire, but 31 is heard: 10 reads and is addressed.
+    let mut ops = vec![master(0x10), queue(&[0x10, 0x08, 0x50, 0x02]), heard(0xAA)];
+    ops.extend(all_heard(&[0x31, 0x10, 0x50, 0x02, 0x00, 0x19]));
+    ops.extend([run(1), heard(0xAA), run(1)]);
+    expect(&ops, &["8 10 given 31 50 02 00", "10 10 owns", "end 10"]);
+}
+
+#[test]
+fn lost_owner_leaves_the_reader_in_step() {
+    // 10 sends P1, NN heard as 01: data 64 and check B0 are heard; 08 takes
+    // it in 18, answers nothing (no entry) in 19, 20; 21 decides.
+    let ops = [
+        master(0x10),
+        slave(0x08),
+        queue(&[0x10, 0x08, 0x50, 0x02]),
+        run(14),
+        heard(0x01),
+        heard(0x64),
+        heard(0xB0),
+        run(3),
+        heard(0x00),
+        run(1),
+    ];
+    let lines = [
+        "11 10 owns",
+        "15 10 failed 1",
+        "15 10 free",
+        "18 08 given 10 50 02 01 64",
+        "21 08 taken",
+        "end 22",
+    ];
+    expect(&ops, &lines);
+}
+
+#[test]
+fn bare_syn_is_never_a_check_symbol() {
+    // P4 with its check symbol AA not expanded: the SYN in 8 ends the reading
+    // and what follows is a new QQ. Sent as a pair it is taken.
+    let head = [0x10, 0x08, 0x50, 0x02, 0x01, 0x7E];
+    let mut ops = after(&head, &[heard(0xAA), run(1), heard(0x00)]);
+    expect(&ops, &["end 10"]);
+    ops = after(&head, &[heard(0xA9), heard(0x01), run(1)]);
+    expect(&ops, &["10 08 given 10 50 02 01 7E", "end 10"]);
+}
