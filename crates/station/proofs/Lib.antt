@@ -1,4 +1,5 @@
 pub mod Aa
+pub mod Admission
 pub mod AfterSyn
 pub mod AnswerPlace
 pub mod Book
