@@ -14,6 +14,7 @@ pub mod Seats
 pub mod SlotsCounted
 pub mod Stations
 pub mod TheLeast
+pub mod Tight
 pub mod Twelfth
 pub mod TwelfthRun
 pub mod Wired
