@@ -4,3 +4,4 @@ pub mod Fit
 pub mod Heard
 pub mod Orders
 pub mod Slots
+pub mod Transfers
