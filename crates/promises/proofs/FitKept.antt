@@ -1,13 +1,14 @@
 -- No address is answered to by two attached stations, whatever was called: refusal 9 keeps them apart, and no other call
 -- changes an address (01, the table). Assumes nothing.
 use mathlib.Core.Path.{_≡_, refl, sym, ap, subst, _∙_}
+use mathlib.Core.Logic.{_≢_}
 use mathlib.Core.Bool.{Bool, true, false, cond, false≢true, true≢false}
 use mathlib.Core.List.{List}
 use Prim.Native.Nat.{ℕ, zero, suc, _≤_, _<_}
 use native.Mathlib.Omega.{arith}
 use native.Mathlib.Nat.{not-suc-le-zero, le-of-suc-le-suc}
 use native.Mathlib.Decide.{ℕ-discrete}
-use borrow.Author.Tests.{eqb-true, ltb-false}
+use borrow.Author.Tests.{eqb-true, eq-eqb, ltb-false}
 use lib.Dec.{eqb, ltb}
 use lib.ListN.{length, getD, length-set}
 use lib.Seq.{getD-take, length-take-le}
@@ -204,6 +205,21 @@ fit-on =
 -- after any sequence of calls the addresses are apart
 pub reachable-fit : {b : Bus} → Reachable b → Fit b
 reachable-fit r = of-reachable Fit fit-on (λ b c k f. by-call Fit b (λ c x k d. answer-fit k d f) (λ h. slot-fit b h f) c k) r
+
+its-own : (s : Station) → isOwn s (s .address) ≡ true
+unfolding isOwn
+its-own s = rw (eq-eqb (s .address) (s .address) refl)
+
+-- so two attached stations with one address are one
+pub one-address : {b : Bus} → Reachable b → (i j : ℕ) → i < attachedTo b → j < attachedTo b → stationAt b i .address ≡ stationAt b j .address → i ≡ j
+one-address {b} r i j l k e =
+    reachable-fit r .apart i j (stationAt b j .address) l k (rw e at (its-own (stationAt b i))) (its-own (stationAt b j))
+
+-- and as a slot begins, two stations have two addresses
+pub ready-apart : {b : Bus} → Reachable b → (i j : ℕ) → i < attachedTo b → j < attachedTo b → i ≢ j
+    → ready (stationAt b i) .address ≡ ready (stationAt b j) .address → ⊥
+ready-apart {b} r i j l k d e =
+    d (one-address r i j l k (sym (ready-lasting (stationAt b i) .address) ∙ e ∙ ready-lasting (stationAt b j) .address))
 
 -- ---- how many are attached
 

@@ -1,12 +1,15 @@
+pub mod AllBeside
 pub mod Anded
 pub mod AnyOrder
 pub mod Arrays
+pub mod Beside
 pub mod Between
 pub mod FitKept
 pub mod HandedOut
 pub mod InStep
 pub mod OneOwner
 pub mod OthersRead
+pub mod OthersTold
 pub mod Outgoing
 pub mod PartAfter
 pub mod Refused
@@ -16,7 +19,10 @@ pub mod Seats
 pub mod SenderHeard
 pub mod SlotsCounted
 pub mod Stations
+pub mod TakenAnswer
+pub mod TakenBy
 pub mod TakenGiven
+pub mod TakenIsHandedOut
 pub mod TakenWitnesses
 pub mod TheLeast
 pub mod Tight

@@ -5,11 +5,9 @@ use mathlib.Core.Bool.{Bool, true, false, cond, false≢true}
 use Prim.Native.Nat.{ℕ, _<_}
 use native.Mathlib.Omega.{arith}
 use native.Mathlib.Nat.{not-suc-le-zero}
-use borrow.Author.Tests.{eq-eqb}
 use lib.Dec.{ltb}
 use Rattle.station.specs.Outbox.{heldIn}
 use Rattle.station.specs.Phase.{owner}
-use Rattle.station.specs.Read.{isOwn}
 use Rattle.station.specs.Station.{fresh, ready, bids}
 use Rattle.station.specs.Hear.{hears}
 use Rattle.station.specs.declared.phase.Sound.{Sound}
@@ -29,7 +27,7 @@ use Rattle.bus.specs.Attach.{newcomer}
 use Rattle.bus.specs.Slot.{slotHeard}
 use Rattle.promises.specs.Calls.{Call, Reachable}
 use Rattle.promises.specs.Fit.{stationAt}
-use Rattle.promises.proofs.FitKept.{reachable-fit}
+use Rattle.promises.proofs.FitKept.{one-address}
 use Rattle.promises.proofs.Seats.{Whole, Did, Seat, as-it-was, newly-taken, holds-more, answers-more, seat-after, attached-slot, slot-seat, whole-answer, whole-slot, of-reachable, by-call}
 
 -- what was heard first since the last AA, quiet left out
@@ -165,10 +163,6 @@ reachable-shared r =
     of-reachable Shared shared-on
     (λ b c k w. by-call Shared b (λ c x k d. answer-shared d w) (λ h. slot-shared b w h) c k) r
 
-its-own : (s : Station) → isOwn s (s .address) ≡ true
-unfolding isOwn
-its-own s = rw (eq-eqb (s .address) (s .address) refl)
-
 -- after any calls from power-on: two attached stations that own the wire are one
 pub one-owner : {b : Bus}
     -- any calls from power-on
@@ -183,5 +177,4 @@ one-owner {b} r i j h k o p =
     let w = reachable-shared r in
     let x = w .each i h .owns o in
     let y = w .each j k .owns p in
-    let e : stationAt b j .address ≡ stationAt b i .address = cc (x, y) in
-    reachable-fit r .apart i j (stationAt b i .address) h k (its-own (stationAt b i)) (rw e at (its-own (stationAt b j)))
+    one-address r i j h k (cc (x, y))

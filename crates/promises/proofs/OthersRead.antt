@@ -44,9 +44,9 @@ use Rattle.promises.proofs.Upto.{Since, before, since, sinceNext, Upto,
 
 -- ---- a reader's turn
 
-record Into (t : Turn) (p : Phase) (part : Telegram) : Type 0 where
-  phase : t .station .phase ≡ p
-  memory : t .station .part ≡ part
+pub record Into (t : Turn) (p : Phase) (part : Telegram) : Type 0 where
+  pub phase : t .station .phase ≡ p
+  pub memory : t .station .part ≡ part
 
 module _ (x : Station) (b : ℕ) (c : Cursor) (n : Attempt) where
   abbrev cursor : Cursor
@@ -99,9 +99,9 @@ module _ (x : Station) (b : ℕ) (c : Cursor) (n : Attempt) where
   turn-whole e f = rw (e, f) (record { phase = refl; memory = refl })
 
   turn-given : readOne c (x .part) b .outcome ≡ Whole true → forAll (part .zz) ≡ true
-      → (reads x b c MasterPart n .told ≡ Given) × (reads x b c MasterPart n .station .part ≡ part)
+      → (reads x b c MasterPart n .told ≡ Given) × Into (reads x b c MasterPart n) Silent part
   unfolding reads whole goes
-  turn-given e f = rw (e, f) (refl, refl)
+  turn-given e f = rw (e, f) (refl, record { phase = refl; memory = refl })
 
 noted-address : (s : Station) → noted s .address ≡ s .address
 unfolding noted
@@ -150,10 +150,10 @@ module _ (s : Station) (b : ℕ) (c : Cursor) (n : Attempt) (at : s .phase ≡ R
       (turn-whole (noted s) b c n e w) (turn-whole (withdrawn (noted s) b) b c n e w)
 
   pub hears-given : readOne c (s .part) b .outcome ≡ Whole true → forAll (readOne c (s .part) b .part .zz) ≡ true
-      → (hears s (Symbol b) .told ≡ Given) × (hears s (Symbol b) .station .part ≡ readOne c (s .part) b .part)
+      → (hears s (Symbol b) .told ≡ Given) × Into (hears s (Symbol b)) Silent (readOne c (s .part) b .part)
   unfolding noted withdrawn
   hears-given e w =
-      by-entering s b c n (λ t. (t .told ≡ Given) × (t .station .part ≡ readOne c (s .part) b .part)) at k f
+      by-entering s b c n (λ t. (t .told ≡ Given) × Into t Silent (readOne c (s .part) b .part)) at k f
       (turn-given (noted s) b c n e w) (turn-given (withdrawn (noted s) b) b c n e w)
 
 -- ---- where PB comes next, QQ and ZZ were read, and only there

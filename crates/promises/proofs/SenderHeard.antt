@@ -20,6 +20,7 @@ use Rattle.station.specs.Station.{ack, nak, due, bids}
 use Rattle.station.specs.Turn.{goes}
 use Rattle.station.specs.Send.{left, disturbed, failed, owned, hearBid, sentWhole, sent, hearOwn, taken, refused, hearReply}
 use Rattle.station.specs.Hear.{overNow, noted, hearQuietAt, hearSymbolAt, hearsAs, hearQuiet, hearReading, hearSymbol, hears}
+use Rattle.station.specs.declared.phase.Part.{Part}
 use Rattle.station.specs.declared.phase.Part.the-variants.{MasterPart}
 use Rattle.station.specs.declared.phase.Attempt.{Attempt}
 use Rattle.station.specs.declared.phase.Attempt.the-variants.{First, Again}
@@ -87,15 +88,14 @@ keeps-other (reads-again _) e f = refl
 keeps-other gives-nothing e f = refl
 keeps-other answer-lost e f = refl
 
--- ---- the symbol that is due
+-- ---- the symbol that is due, of a part with the symbols fs
 
 at-seam : (xs : List ℕ) (y : ℕ) (ys : List ℕ) → getD (xs ++ (y ∷ ys)) (length xs) 0 ≡ y
 at-seam [] y ys = refl
 at-seam (x ∷ xs) y ys = at-seam xs y ys
 
-module _ (x : Station) (t : Telegram) (xs : List ℕ) (y : ℕ) (ys : List ℕ) (f : telegramForm t ≡ xs ++ (y ∷ ys))
-    (o : x .out ≡ holding (telegramForm t)) (r : length (telegramForm t) ≤ room) where
-  form-length : length (telegramForm t) ≡ length xs + suc (length ys)
+module _ (x : Station) (fs xs : List ℕ) (y : ℕ) (ys : List ℕ) (f : fs ≡ xs ++ (y ∷ ys)) (o : x .out ≡ holding fs) (r : length fs ≤ room) where
+  form-length : length fs ≡ length xs + suc (length ys)
   form-length = ap length f ∙ length-append xs (y ∷ ys)
 
   out-length : x .out .len ≡ length xs + suc (length ys)
@@ -109,22 +109,21 @@ module _ (x : Station) (t : Telegram) (xs : List ℕ) (y : ℕ) (ys : List ℕ) 
       let l : length xs < x .out .len = omega (arith, out-length) in
       let g : getD (x .out .bytes) (length xs) 0 ≡ y =
       ap (λ (w : Wire). getD (w .bytes) (length xs) 0) o
-      ∙ ap (λ (l : List ℕ). getD (l ++ replicate (room - length (telegramForm t)) 0) (length xs) 0) f
-      ∙ ap (λ (l : List ℕ). getD l (length xs) 0) (append-assoc xs (y ∷ ys) (replicate (room - length (telegramForm t)) 0))
-      ∙ at-seam xs y (ys ++ replicate (room - length (telegramForm t)) 0) in
+      ∙ ap (λ (l : List ℕ). getD (l ++ replicate (room - length fs) 0) (length xs) 0) f
+      ∙ ap (λ (l : List ℕ). getD l (length xs) 0) (append-assoc xs (y ∷ ys) (replicate (room - length fs) 0))
+      ∙ at-seam xs y (ys ++ replicate (room - length fs) 0) in
       rw (lt-ltb (length xs) room k, lt-ltb (length xs) (x .out .len) l, g)
 
-  pub sent-last : ys ≡ [] → (n : Attempt) → sent x (length xs) MasterPart n ≡ sentWhole x MasterPart n
+  pub sent-last : ys ≡ [] → (p : Part) (n : Attempt) → sent x (length xs) p n ≡ sentWhole x p n
   unfolding sent
-  sent-last e n =
+  sent-last e p n =
       let k : length xs < room = omega (arith, form-length) in
       let l : x .out .len ≤ length xs + 1 = omega (arith, out-length, ap length e) in
       rw (lt-ltb (length xs) room k, le-ltb (length xs + 1) (x .out .len) l)
 
-  pub sent-more : 0 < length ys → (n : Attempt)
-      → sent x (length xs) MasterPart n ≡ goes x (Sending (length xs + 1) MasterPart n) Silence
+  pub sent-more : 0 < length ys → (p : Part) (n : Attempt) → sent x (length xs) p n ≡ goes x (Sending (length xs + 1) p n) Silence
   unfolding sent
-  sent-more g n =
+  sent-more g p n =
       let k : length xs < room = omega (arith, form-length) in
       let l : length xs + 1 < x .out .len = omega (arith, out-length) in
       rw (lt-ltb (length xs) room k, lt-ltb (length xs + 1) (x .out .len) l)
@@ -166,13 +165,13 @@ module _ (x : Station) (h : Since) where
       → SendsTurn (sinceNext h b) (sent x (length xs) MasterPart n)
   unfolding goes sentWhole
   own-heard b xs y [] {n} u f o g e =
-      rw (sent-last x (x .part) xs y [] f o (telegram-fits (x .part) (g .full)) refl n)
+      rw (sent-last x (telegramForm (x .part)) xs y [] f o (telegram-fits (x .part) (g .full)) refl MasterPart n)
       (tested (forAll (x .part .zz)) (λ _. record { now = other refl })
       (λ a. record { now = awaiting (xs ++ (b ∷ [])) (upto-more b u) (rw (← e) (sym f)) a o g }))
   own-heard b xs y (z ∷ zs) {n} u f o g e =
       let l : length (xs ++ (b ∷ [])) ≡ length xs + 1 = length-append xs (b ∷ []) in
       let q : telegramForm (x .part) ≡ (xs ++ (b ∷ [])) ++ (z ∷ zs) = f ∙ rw e (sym (append-assoc xs (b ∷ []) (z ∷ zs))) in
-      rw (sent-more x (x .part) xs y (z ∷ zs) f o (telegram-fits (x .part) (g .full)) (omega arith) n)
+      rw (sent-more x (telegramForm (x .part)) xs y (z ∷ zs) f o (telegram-fits (x .part) (g .full)) (omega arith) MasterPart n)
       (record { now = sending (xs ++ (b ∷ [])) z zs (upto-more b u) q l o g })
 
   own-turn : (b : ℕ) (xs : List ℕ) (y : ℕ) (ys : List ℕ) {k : ℕ} {n : Attempt} → Upto (x .part) n xs h → telegramForm (x .part) ≡ xs ++ (y ∷ ys)
@@ -180,7 +179,7 @@ module _ (x : Station) (h : Since) where
       → SendsTurn (sinceNext h b) (hearOwn x b k MasterPart n)
   unfolding hearOwn disturbed left
   own-turn b xs y ys {n = n} u f l o g =
-      rw (← l, due-is x (x .part) xs y ys f o (telegram-fits (x .part) (g .full)))
+      rw (← l, due-is x (telegramForm (x .part)) xs y ys f o (telegram-fits (x .part) (g .full)))
       (tested (eqb y b) (λ e. own-heard b xs y ys u f o g (eqb-true y b e)) (λ _. record { now = other refl }))
 
   reply-turn : (b : ℕ) (xs : List ℕ) (n : Attempt) → Upto (x .part) n xs h → xs ≡ telegramForm (x .part) → forAll (x .part .zz) ≡ false

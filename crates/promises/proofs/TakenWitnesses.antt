@@ -1,7 +1,8 @@
--- Runs in which the owner is told Taken, computed: the theorems on it speak of something. Assumes nothing.
+-- Runs in which a station is told Taken while a master owns the wire, computed: the theorem on it speaks of something. Assumes nothing.
 use mathlib.Core.Path.{_≡_, refl}
-use mathlib.Core.Bool.{Bool, true, false}
+use mathlib.Core.Bool.{true, false}
 use mathlib.Core.List.{List, [], _∷_}
+use Prim.Native.Nat.{ℕ}
 use Rattle.laws.specs.First.{firstFrom}
 use Rattle.crc.specs.Crc.{timesX, timesXⁿ, crcStep, crcFrom, crcOf}
 use Rattle.address.specs.Half.{halfIndex, classOf, subOf}
@@ -22,7 +23,8 @@ use Rattle.station.specs.Send.{left, released, disturbed, failed, owned, withdr
 use Rattle.station.specs.Station.{fresh, answering, ready, bids, sayBid, due, acknowledgement, says}
 use Rattle.station.specs.Turn.{goes}
 use Rattle.station.specs.declared.phase.Sound.the-variants.{Symbol}
-use Rattle.station.specs.declared.phase.Told.the-variants.{Taken, Given}
+use Rattle.station.specs.declared.phase.Told.{Told}
+use Rattle.station.specs.declared.phase.Told.the-variants.{Taken, Given, Answered}
 use Rattle.bus.specs.declared.bus.Bus.{Bus}
 use Rattle.bus.specs.Attach.{noSuchAddress, occupied, newcomer, takesSeat, attaches}
 use Rattle.bus.specs.Bus.{poweredOn, attachedTo, turnAt, withTurn, refusedBy, done}
@@ -30,7 +32,7 @@ use Rattle.bus.specs.Find.{slaveAddress, isMasterAt, firstOf, thereIs}
 use Rattle.bus.specs.Queue.{unusable, noTarget, noCommand, holds, queuesTelegram, queuesFrom, queues}
 use Rattle.bus.specs.Reply.{writes, repliesFrom, replies}
 use Rattle.bus.specs.Slot.{generatorSays, spoken, slotHeard, slotRun}
-use Rattle.promises.specs.Calls.{Call, attach, queue, slot, heard, afterCall, afterCalls}
+use Rattle.promises.specs.Calls.{Call, attach, queue, reply, slot, heard, afterCall, afterCalls}
 use Rattle.promises.specs.Fit.{stationAt}
 use Rattle.promises.specs.Heard.{sinceCalls}
 
@@ -52,22 +54,31 @@ abbrev pub beforeTheAck : List Call
 beforeTheAck =
     attach 0x10 true ∷ attach 0x08 false ∷ queue 0x10 0x08 0x50 0x02 [] ∷ heard (Symbol 0xAA) ∷ slot ∷ slot ∷ slot ∷ slot ∷ slot ∷ slot ∷ []
 
+-- the same; 08 has a reply of one byte for 50 02, and the next slot has the 00 behind its answer 01 2A CRC
+abbrev pub beforeTheAnswersAck : List Call
+beforeTheAnswersAck =
+    attach 0x10 true ∷ attach 0x08 false ∷ queue 0x10 0x08 0x50 0x02 [] ∷ reply 0x08 0x50 0x02 (0x2A ∷ []) ∷ heard (Symbol 0xAA)
+    ∷ slot ∷ slot ∷ slot ∷ slot ∷ slot ∷ slot ∷ slot ∷ slot ∷ slot ∷ slot ∷ []
+
 -- master 10 and slave 08; 10 sends 50 02 to all, and the next slot has the CRC
 abbrev pub beforeTheEnd : List Call
 beforeTheEnd =
     attach 0x10 true ∷ attach 0x08 false ∷ queue 0x10 0xFE 0x50 0x02 [] ∷ heard (Symbol 0xAA) ∷ slot ∷ slot ∷ slot ∷ slot ∷ slot ∷ []
 
--- 10 owns the wire, is told Taken in the next slot, and its part is for all or not
-record Takes (cs : List Call) (all : Bool) : Type 0 where
+-- 10, in seat 0, owns the wire; in the next slot the station in seat i is told Taken, and the one in seat j as given
+record Takes (cs : List Call) (i j : ℕ) (told : Told) : Type 0 where
   owns : owner (stationAt (afterCalls poweredOn cs) 0 .phase) ≡ true
-  takes : turnAt (afterCall (afterCalls poweredOn cs) slot) 0 .told ≡ Taken
-  zz-for-all : forAll (stationAt (afterCalls poweredOn cs) 0 .part .zz) ≡ all
-  given : turnAt (afterCall (afterCalls poweredOn cs) slot) 1 .told ≡ Given
+  takes : turnAt (afterCall (afterCalls poweredOn cs) slot) i .told ≡ Taken
+  hands-out : turnAt (afterCall (afterCalls poweredOn cs) slot) j .told ≡ told
 
-ten-takes : Takes beforeTheAck false
+ten-takes : Takes beforeTheAck 0 1 Given
 unfolding run
-ten-takes = record { owns = refl; takes = refl; zz-for-all = refl; given = refl }
+ten-takes = record { owns = refl; takes = refl; hands-out = refl }
 
-ten-takes-for-all : Takes beforeTheEnd true
+ten-takes-for-all : Takes beforeTheEnd 0 1 Given
 unfolding run
-ten-takes-for-all = record { owns = refl; takes = refl; zz-for-all = refl; given = refl }
+ten-takes-for-all = record { owns = refl; takes = refl; hands-out = refl }
+
+eight-takes : Takes beforeTheAnswersAck 1 0 Answered
+unfolding run
+eight-takes = record { owns = refl; takes = refl; hands-out = refl }
