@@ -41,16 +41,16 @@ use Rattle.promises.proofs.Seats.{withNewcomer, Did, refused, attached,
 
 -- ---- who a station is
 
-record SameOne (s after : Station) : Type 0 where
-  address : after .address ≡ s .address
-  master : after .master ≡ s .master
+pub record SameOne (s after : Station) : Type 0 where
+  pub address : after .address ≡ s .address
+  pub master : after .master ≡ s .master
 
 own-same : {s after : Station} → SameOne s after → (a : ℕ) → isOwn after a ≡ isOwn s a
 unfolding isOwn
 own-same e a = rw (e .address, e .master)
 
 -- where every attached station is who it was, the bus is fit as it was
-still-fit : (b after : Bus) → length (after .turns) ≡ seats → attachedTo after ≡ attachedTo b
+pub still-fit : (b after : Bus) → length (after .turns) ≡ seats → attachedTo after ≡ attachedTo b
     → ((i : ℕ) → i < attachedTo b → SameOne (stationAt b i) (stationAt after i)) → Fit b → Fit after
 still-fit b after w n same f =
     record {
@@ -183,7 +183,7 @@ answer-fit {b} k (queued i t s) f =
 answer-fit {b} k (replied i r _) f =
     one-turn b i (answeringMore (turnAt b i) r) (record { address = refl; master = refl }) f
 
-slot-fit : (b : Bus) (h : Sound) → Fit b → Fit (slotHeard b h)
+pub slot-fit : (b : Bus) (h : Sound) → Fit b → Fit (slotHeard b h)
 slot-fit b h f = still-fit b (slotHeard b h) (whole-slot b h (f .array)) (attached-slot b h) each f
   where
     each : (i : ℕ) → i < attachedTo b → SameOne (stationAt b i) (stationAt (slotHeard b h) i)
@@ -211,15 +211,14 @@ unfolding isOwn
 its-own s = rw (eq-eqb (s .address) (s .address) refl)
 
 -- so two attached stations with one address are one
-pub one-address : {b : Bus} → Reachable b → (i j : ℕ) → i < attachedTo b → j < attachedTo b → stationAt b i .address ≡ stationAt b j .address → i ≡ j
-one-address {b} r i j l k e =
-    reachable-fit r .apart i j (stationAt b j .address) l k (rw e at (its-own (stationAt b i))) (its-own (stationAt b j))
+pub one-address : {b : Bus} → Fit b → (i j : ℕ) → i < attachedTo b → j < attachedTo b → stationAt b i .address ≡ stationAt b j .address → i ≡ j
+one-address {b} f i j l k e = f .apart i j (stationAt b j .address) l k (rw e at (its-own (stationAt b i))) (its-own (stationAt b j))
 
 -- and as a slot begins, two stations have two addresses
 pub ready-apart : {b : Bus} → Reachable b → (i j : ℕ) → i < attachedTo b → j < attachedTo b → i ≢ j
     → ready (stationAt b i) .address ≡ ready (stationAt b j) .address → ⊥
 ready-apart {b} r i j l k d e =
-    d (one-address r i j l k (sym (ready-lasting (stationAt b i) .address) ∙ e ∙ ready-lasting (stationAt b j) .address))
+    d (one-address (reachable-fit r) i j l k (sym (ready-lasting (stationAt b i) .address) ∙ e ∙ ready-lasting (stationAt b j) .address))
 
 -- ---- how many are attached
 

@@ -14,6 +14,7 @@ pub mod Outgoing
 pub mod PartAfter
 pub mod Refused
 pub mod Round
+pub mod Runs
 pub mod SameSymbol
 pub mod Seats
 pub mod SenderHeard

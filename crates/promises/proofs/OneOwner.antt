@@ -27,7 +27,7 @@ use Rattle.bus.specs.Attach.{newcomer}
 use Rattle.bus.specs.Slot.{slotHeard}
 use Rattle.promises.specs.Calls.{Call, Reachable}
 use Rattle.promises.specs.Fit.{stationAt}
-use Rattle.promises.proofs.FitKept.{one-address}
+use Rattle.promises.proofs.FitKept.{reachable-fit, one-address}
 use Rattle.promises.proofs.Seats.{Whole, Did, Seat, as-it-was, newly-taken, holds-more, answers-more, seat-after, attached-slot, slot-seat, whole-answer, whole-slot, of-reachable, by-call}
 
 -- what was heard first since the last AA, quiet left out
@@ -177,4 +177,4 @@ one-owner {b} r i j h k o p =
     let w = reachable-shared r in
     let x = w .each i h .owns o in
     let y = w .each j k .owns p in
-    one-address r i j h k (cc (x, y))
+    one-address (reachable-fit r) i j h k (cc (x, y))

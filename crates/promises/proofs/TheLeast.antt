@@ -7,31 +7,25 @@ use mathlib.Core.Logic.{⊎-elim}
 use Prim.Native.Nat.{ℕ, zero, suc, _≤_, _<_}
 use native.Mathlib.Nat.{eq-or-lt-of-le, le-of-suc-le-suc}
 use native.Mathlib.Omega.{arith}
-use borrow.Author.Tests.{eq-eqb, ltb-true, ltb-false}
+use borrow.Author.Tests.{ltb-true, ltb-false}
 use lib.Dec.{ltb}
-use lib.ListN.{length}
-use Rattle.address.specs.Master.{isMaster, rankOf}
+use Rattle.address.specs.Master.{rankOf}
 use Rattle.address.specs.declared.Rank.{Rank}
 use Rattle.address.specs.declared.Rank.the-variants.{Of, Nobody}
 use Rattle.address.proofs.Masters.{master-exactly-when-ranked}
 use Rattle.address.proofs.Ranks.{ranks-distinct}
-use Rattle.station.specs.Read.{isOwn}
-use Rattle.station.specs.Station.{syn, ready, bids}
-use Rattle.station.specs.declared.phase.Sound.{Sound}
+use Rattle.station.specs.Station.{syn, bids}
 use Rattle.station.specs.declared.phase.Sound.the-variants.{Symbol}
-use Rattle.station.specs.declared.station.Station.{Station}
-use Rattle.station.specs.declared.station.Turn.{Turn}
-use Rattle.station.proofs.Frame.{ready-lasting, hears-lasting}
-use Rattle.bus.specs.Bus.{seats, attachedTo}
-use Rattle.bus.specs.Slot.{slotHeard}
+use Rattle.bus.specs.Bus.{attachedTo}
 use Rattle.bus.specs.declared.bus.Bus.{Bus}
-use Rattle.promises.specs.Calls.{Call, slot, afterCall, afterCalls}
-use Rattle.promises.specs.Contest.{SynHeardIn, sent, disturbed, Between, Undisturbed, Each, slotsOf, Contends, LeastRank, TheLeast, OwnsInOneOf}
+use Rattle.promises.specs.Calls.{Call, slot, afterCall, afterCalls, Reachable}
+use Rattle.promises.specs.Contest.{SynHeardIn, sent, disturbed, Between, Undisturbed, Each, Contends, LeastRank, TheLeast, OwnsInOneOf}
 use Rattle.promises.specs.Fit.{stationAt, Fit}
+use Rattle.promises.specs.Slots.{slotsIn}
 use Rattle.promises.proofs.Between.{KeepsAll, between-keeps}
 use Rattle.promises.proofs.Round.{bid-means, means-bid}
-use Rattle.promises.proofs.Twelfth.{Begun, begun-heard, begun-between, attached-kept, hears-word, least-rank-owns-by-the-twelfth}
-use Rattle.promises.proofs.Word.{seat-after, array-after, attached-after}
+use Rattle.promises.proofs.FitKept.{still-fit, slot-fit, reachable-fit, one-address}
+use Rattle.promises.proofs.Twelfth.{Begun, begun-heard, begun-between, attached-kept, hears-word, contender-owns-by-the-twelfth}
 
 -- ---- there is one
 
@@ -95,79 +89,18 @@ module _ (b : Bus) where
 
 -- ---- there is one only
 
--- it is the same station, whatever it is about
-record Named (s t : Station) : Type 0 where
-  address : t .address ≡ s .address
-  master : t .master ≡ s .master
-
-own-same : {s t : Station} (a : ℕ) → Named s t → isOwn t a ≡ isOwn s a
-unfolding isOwn
-own-same a n = rw (n .address, n .master)
-
--- the same stations in the same seats
-record SameSeats (b c : Bus) : Type 0 where
-  count : attachedTo c ≡ attachedTo b
-  array : length (c .turns) ≡ seats
-  named : (j : ℕ) → j < attachedTo b → Named (stationAt b j) (stationAt c j)
-
-same-fit : {b c : Bus} → SameSeats b c → Fit b → Fit c
-same-fit {b} {c} s f =
-    record {
-      array = s .array;
-      apart =
-          λ i j a h k e g.
-          let x = seat h in
-          let y = seat k in
-          f .apart i j a x y (sym (own-same a (s .named i x)) ∙ e) (sym (own-same a (s .named j y)) ∙ g);
-      addressed =
-          λ i h.
-          let x = seat h in
-          let n = s .named i x in
-          let d = f .addressed i x in
-          record { byte = omega (arith, n .address, d .byte); master-address = λ e. ap isMaster (n .address) ∙ d .master-address (sym (n .master) ∙ e) };
-    }
-  where
-    seat : {j : ℕ} → j < attachedTo c → j < attachedTo b
-    seat h = omega (arith, s .count)
-
 between-fit : {b c : Bus} → KeepsAll b c → Fit b → Fit c
-between-fit k f =
-    same-fit
-    (record {
-      count = attached-kept k;
-      array = k .array ∙ f .array;
-      named = λ j h. let s = k .stations j in record { address = s .address; master = s .master };
-    })
-    f
-
-heard-fit : (b : Bus) (h : Sound) → Fit b → Fit (slotHeard b h)
-heard-fit b h f =
-    same-fit
-    (record { count = attached-after b h; array = array-after b h (f .array); named = named })
-    f
-  where
-    named : (j : ℕ) → j < attachedTo b → Named (stationAt b j) (stationAt (slotHeard b h) j)
-    named j k =
-        let e = seat-after b h (f .array) j k in
-        let r = ready-lasting (stationAt b j) in
-        let l = hears-lasting (ready (stationAt b j)) h in
-        record {
-          address = ap (λ (t : Turn). t .station .address) e ∙ l .address ∙ r .address;
-          master = ap (λ (t : Turn). t .station .master) e ∙ l .master ∙ r .master;
-        }
+between-fit {b} {c} k f =
+    still-fit b c (k .array ∙ f .array) (attached-kept k) (λ j h. let s = k .stations j in record { address = s .address; master = s .master }) f
 
 syn-fit : (b : Bus) → Fit b → {c : Call} → SynHeardIn b c → Fit (afterCall b c)
-syn-fit b f (sent e) = rw (hears-word b (Symbol syn) e) (heard-fit b (Symbol syn) f)
-syn-fit b f disturbed = heard-fit b (Symbol syn) f
+syn-fit b f (sent e) = rw (hears-word b (Symbol syn) e) (slot-fit b (Symbol syn) f)
+syn-fit b f disturbed = slot-fit b (Symbol syn) f
 
 calls-fit : (b : Bus) → Fit b → (cs : List Call) → Each Between cs → Fit (afterCalls b cs)
 unfolding afterCalls
 calls-fit b f [] u = f
 calls-fit b f (c ∷ cs) (k, us) = calls-fit (afterCall b c) (between-fit (between-keeps b k) f) cs us
-
-own-address : (s : Station) (a : ℕ) → a ≡ s .address → isOwn s a ≡ true
-unfolding isOwn
-own-address s a e = rw (eq-eqb a (s .address) e)
 
 module _ (b : Bus) (f : Fit b) (g : Begun b) where
   ranked : {j : ℕ} → Contends b j → (r : ℕ) × (rankOf (stationAt b j .address) ≡ Of r)
@@ -183,13 +116,14 @@ module _ (b : Bus) (f : Fit b) (g : Begun b) where
       let same : stationAt b j .address ≡ stationAt b i .address
       = ranks-distinct (stationAt b j .address) (stationAt b i .address) (r .0) (f .addressed j (d .attached) .byte) (f .addressed i (c .attached) .byte)
       (q .1 ∙ ap Of e) (r .1) in
-      f .apart j i (stationAt b j .address) (d .attached) (c .attached) (own-address (stationAt b j) (stationAt b j .address) refl)
-      (own-address (stationAt b i) (stationAt b j .address) same)
+      one-address f j i (d .attached) (c .attached) same
 
--- the whole sentence: if there are any that contend, one of them is the least, and it becomes owner in one of the twelve slots
-pub the-least-owns-by-the-twelfth :
-    -- on a bus whose stations have fit addresses
-    (b : Bus) → Fit b
+-- the demand: "if a SYN is heard and the next twelve slots are undisturbed, then among the masters which that SYN admits and which
+-- have a telegram waiting when the next slot begins, if there are any, the one least by priority class and then by sub-address
+-- becomes owner by the twelfth"
+pub least-rank-owns-by-the-twelfth : {b : Bus}
+    -- any calls from power-on
+    → Reachable b
     -- a SYN is heard in a slot, however it came about
     → (c : Call) → SynHeardIn b c
     -- then users may queue and set replies, and the next slot begins
@@ -197,15 +131,16 @@ pub the-least-owns-by-the-twelfth :
     -- there are any that this SYN admits and that have a telegram waiting when that slot begins
     → (j : ℕ) → Contends (afterCalls (afterCall b c) before) j
     -- that slot and eleven more are undisturbed, with any queue and reply calls between them
-    → (calls : List Call) → Each Undisturbed calls → slotsOf (slot ∷ calls) ≡ 12
+    → (calls : List Call) → Each Undisturbed calls → slotsIn (slot ∷ calls) ≡ 12
     -- the one of least rank becomes owner in one of the twelve
     → (i : ℕ) × TheLeast (afterCalls (afterCall b c) before) i × OwnsInOneOf i (afterCalls (afterCall b c) before) (slot ∷ calls)
-the-least-owns-by-the-twelfth b f c s before u j k calls v n =
+least-rank-owns-by-the-twelfth {b} r c s before u j k calls v n =
+    let f = reachable-fit r in
     let b₂ = afterCalls (afterCall b c) before in
     let w = some-least b₂ j k in
     let fit : Fit b₂ = calls-fit (afterCall b c) (syn-fit b f s) before u in
     let begun : Begun b₂ = begun-between (afterCall b c) (begun-heard b f s) before u in (
       w .0,
       record { contends = w .1; least = w .2; only = λ m d l. only-least b₂ fit begun (w .0) m (w .1) (w .2) d l },
-      least-rank-owns-by-the-twelfth b f c s before u (w .0) (w .1) (w .2) calls v n,
+      contender-owns-by-the-twelfth b f c s before u (w .0) (w .1) (w .2) calls v n,
     )

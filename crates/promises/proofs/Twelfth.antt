@@ -1,5 +1,5 @@
--- Demand 3's twelve-slot clause: after a SYN and in twelve undisturbed slots, the least of the masters that it admits and that wait becomes
--- owner. Assumes nothing.
+-- After a SYN and in twelve undisturbed slots, who is the least of the masters that it admits and that wait becomes owner.
+-- Assumes nothing.
 use mathlib.Core.Path.{_≡_, refl, sym, ap, subst, _∙_}
 use mathlib.Core.Bool.{Bool, true, false}
 use mathlib.Core.List.{List, [], _∷_}
@@ -23,8 +23,9 @@ use Rattle.bus.specs.Bus.{seats, attachedTo, turnAt}
 use Rattle.bus.specs.Slot.{patience, generatorSays, generatorNext, spoken, slotHeard, slotRun}
 use Rattle.bus.specs.declared.bus.Bus.{Bus}
 use Rattle.promises.specs.Calls.{Call, slot, afterCall, afterCalls}
-use Rattle.promises.specs.Contest.{SynHeardIn, sent, disturbed, Between, queued, replied, Undisturbed, by-all, between, Each, slotsOf, Contends, LeastRank, BecomesOwner, OwnsInOneOf, this-slot, later}
+use Rattle.promises.specs.Contest.{SynHeardIn, sent, disturbed, Between, queued, replied, Undisturbed, by-all, between, Each, Contends, LeastRank, BecomesOwner, OwnsInOneOf, this-slot, later}
 use Rattle.promises.specs.Fit.{stationAt, Addressed, Fit}
+use Rattle.promises.specs.Slots.{slotsIn}
 use Rattle.promises.proofs.Anded.{NotAfter, not-after}
 use Rattle.promises.proofs.Between.{Keeps, KeepsAll, between-keeps}
 use Rattle.promises.proofs.Round.{ready-opens, bid-means, means-bid, Won, wins, Near, Lost, Waits, Starts, syn-starts, lost-one, lost-waits, mute-ready, lost-says, quiet-lost, quiet-waits, Again, again-opens, Bidder, again-bids, starts-kept, lost-kept, waits-kept, again-kept, bidder-kept}
@@ -39,9 +40,9 @@ attached-kept k = rw (k .count)
 seats-kept : (P : Station → Type 0) {b c : Bus} → ((s t : Station) → Keeps s t → P s → P t) → KeepsAll b c → InEverySeat P b → InEverySeat P c
 seats-kept P {b} {c} f k p j h = f (stationAt b j) (stationAt c j) (k .stations j) (p j (rw (attached-kept k) at h))
 
-between-none : {c : Call} (cs : List Call) → Between c → slotsOf (c ∷ cs) ≡ slotsOf cs
-between-none cs queued = refl
-between-none cs replied = refl
+between-none : {c : Call} (cs : List Call) → Between c → slotsIn (c ∷ cs) ≡ slotsIn cs
+between-none cs queued = omega arith
+between-none cs replied = omega arith
 
 -- ---- a slot with a known word
 
@@ -109,7 +110,7 @@ last-owns a i b l = own-word b i o (l .seated) (l .it .bid) (by-word (spoken b) 
         let f : stationAt b i .address ≡ a = l .it .address in
         ap Symbol (omega (arith, ap lowHalf f, ap highHalf f))
 
-last-run : (a i : ℕ) (b : Bus) → Last a i b → (cs : List Call) → Each Undisturbed cs → slotsOf cs ≡ 1 → OwnsInOneOf i b cs
+last-run : (a i : ℕ) (b : Bus) → Last a i b → (cs : List Call) → Each Undisturbed cs → slotsIn cs ≡ 1 → OwnsInOneOf i b cs
 last-run a i b l [] u n = absurd (omega arith)
 last-run a i b l (c ∷ cs) (by-all, us) n = this-slot (last-owns a i b l)
 last-run a i b l (c ∷ cs) (between k, us) n =
@@ -176,7 +177,7 @@ waiting-syn a i b l = rw (hears-word b (Symbol syn) (waiting-word l)) after
               in-seat (Bidder a) b (Symbol syn) (l .array) i (l .seated) (rw (mute-ready (stationAt b i) (e .mute)) (again-bids e (l .it)));
         }
 
-waiting-run : (a i k : ℕ) (b : Bus) → Waiting a i k b → (m : ℕ) → k + m ≡ patience → (cs : List Call) → Each Undisturbed cs → slotsOf cs ≡ suc (suc m)
+waiting-run : (a i k : ℕ) (b : Bus) → Waiting a i k b → (m : ℕ) → k + m ≡ patience → (cs : List Call) → Each Undisturbed cs → slotsIn cs ≡ suc (suc m)
     → OwnsInOneOf i b cs
 waiting-run a i k b l m e [] u n = absurd (omega arith)
 waiting-run a i k b l m e (c ∷ cs) (between d, us) n =
@@ -268,7 +269,7 @@ module _ (b : Bus) (g : Begun b) (i : ℕ) (c : Contends b i) (least : LeastRank
                 (rw (ready-opens (st .opens)) (lost-waits (stationAt b i .address) w (h .master) (h .low) (h .high) other st bid refl));
           }
 
-  begun-run : (cs : List Call) → Each Undisturbed cs → slotsOf cs ≡ 11 → OwnsInOneOf i b (slot ∷ cs)
+  begun-run : (cs : List Call) → Each Undisturbed cs → slotsIn cs ≡ 11 → OwnsInOneOf i b (slot ∷ cs)
   begun-run cs u n = by-own (by-word (spoken b) refl)
     where
       by-own : (w : ℕ) × Heard w → OwnsInOneOf i b (slot ∷ cs)
@@ -303,8 +304,8 @@ unfolding afterCalls
 begun-between b g [] u = g
 begun-between b g (c ∷ cs) (k, us) = begun-between (afterCall b c) (begun-kept (between-keeps b k) g) cs us
 
--- demand 3's twelve-slot clause, for a station that is given as the least; `TheLeast` shows that there is one wherever any contend
-pub least-rank-owns-by-the-twelfth :
+-- the twelve-slot clause for a station that is given as the least; `TheLeast` shows that there is one wherever any contend
+pub contender-owns-by-the-twelfth :
     -- on a bus whose stations have fit addresses
     (b : Bus) → Fit b
     -- a SYN is heard in a slot, however it came about
@@ -316,8 +317,8 @@ pub least-rank-owns-by-the-twelfth :
     -- and of all of them it has the least rank
     → LeastRank (afterCalls (afterCall b c) before) i
     -- that slot and eleven more are undisturbed, with any queue and reply calls between them
-    → (calls : List Call) → Each Undisturbed calls → slotsOf (slot ∷ calls) ≡ 12
+    → (calls : List Call) → Each Undisturbed calls → slotsIn (slot ∷ calls) ≡ 12
     -- it becomes owner in one of the twelve
     → OwnsInOneOf i (afterCalls (afterCall b c) before) (slot ∷ calls)
-least-rank-owns-by-the-twelfth b f c s before u i k least calls v n =
+contender-owns-by-the-twelfth b f c s before u i k least calls v n =
     begun-run (afterCalls (afterCall b c) before) (begun-between (afterCall b c) (begun-heard b f s) before u) i k least calls v (omega arith)

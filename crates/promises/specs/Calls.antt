@@ -1,5 +1,4 @@
 -- The calls that users make, and the bus after any sequence of them from power-on. Assumes nothing.
-use mathlib.Core.Path.{_≡_}
 use mathlib.Core.Bool.{Bool}
 use mathlib.Core.List.{List, [], _∷_}
 use Prim.Native.Nat.{ℕ, _<_}
@@ -11,7 +10,6 @@ use Rattle.bus.specs.Queue.{queues}
 use Rattle.bus.specs.Reply.{replies}
 use Rattle.bus.specs.Slot.{slotHeard, slotRun}
 use Rattle.bus.specs.declared.bus.Bus.{Bus}
-use Rattle.bus.specs.declared.bus.Answer.{Answer}
 
 pub data Call : Type 0 where
   -- a master (true) or a slave is attached at an address

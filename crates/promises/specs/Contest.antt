@@ -2,7 +2,7 @@
 use mathlib.Core.Path.{_≡_}
 use mathlib.Core.Bool.{true}
 use mathlib.Core.List.{List, [], _∷_}
-use Prim.Native.Nat.{ℕ, suc, _≤_, _<_}
+use Prim.Native.Nat.{ℕ, _≤_, _<_}
 use Rattle.address.specs.Master.{rankOf}
 use Rattle.address.specs.declared.Rank.the-variants.{Of}
 use Rattle.station.specs.Outbox.{heldIn}
@@ -13,7 +13,7 @@ use Rattle.station.specs.declared.phase.Told.the-variants.{Owns}
 use Rattle.bus.specs.Bus.{attachedTo, turnAt}
 use Rattle.bus.specs.Slot.{spoken, slotRun}
 use Rattle.bus.specs.declared.bus.Bus.{Bus}
-use Rattle.promises.specs.Calls.{Call, attach, queue, reply, slot, heard, afterCall}
+use Rattle.promises.specs.Calls.{Call, queue, reply, slot, heard, afterCall}
 use Rattle.promises.specs.Fit.{stationAt}
 
 -- AA is heard in this slot, however it came about: it was sent, by whomever, or the slot was disturbed so
@@ -34,15 +34,6 @@ pub data Undisturbed : Call → Type 0 where
 abbrev pub Each : (Call → Type 0) → List Call → Type 0
 Each P [] = Unit {0}
 Each P (c ∷ cs) = P c × Each P cs
-
--- how many of the calls are slots
-abbrev pub slotsOf : List Call → ℕ
-slotsOf [] = 0
-slotsOf (attach a master ∷ cs) = slotsOf cs
-slotsOf (queue qq zz pb sb bytes ∷ cs) = slotsOf cs
-slotsOf (reply a pb sb bytes ∷ cs) = slotsOf cs
-slotsOf (slot ∷ cs) = suc (slotsOf cs)
-slotsOf (heard h ∷ cs) = suc (slotsOf cs)
 
 -- an attached station that the AA of the last slot admits, with a telegram waiting
 pub record Contends (b : Bus) (i : ℕ) : Type 0 where
