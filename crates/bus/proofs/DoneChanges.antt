@@ -27,13 +27,13 @@ use Rattle.bus.specs.declared.refusal.Refusal.{Refusal}
 use Rattle.bus.specs.declared.refusal.Verdict.{Verdict}
 use Rattle.bus.specs.declared.refusal.Verdict.the-variants.{Done, Refused}
 use Rattle.bus.specs.Attach.{newcomer, noSuchAddress, occupied, takesSeat, attaches}
-use Rattle.bus.specs.Bus.{seats, unseated, attachedTurns, turnAt, withTurn, refusedBy, done}
+use Rattle.bus.specs.Bus.{seats, unseated, attachedTo, attachedTurns, turnAt, withTurn, refusedBy, done}
 use Rattle.bus.specs.Conditions.{First, MasterAt, SlaveAt}
 use Rattle.bus.specs.Find.{firstOf}
 use Rattle.bus.specs.Queue.{noTarget, noCommand, holds, queuesTelegram, queuesFrom, queuesAt, queues}
 use Rattle.bus.specs.Reply.{withReplies, writes, repliesFrom, repliesAt, replies}
 use Rattle.bus.proofs.Reflects.{first-holds}
-use Rattle.bus.proofs.RefusedQueue.{turn-found, master-reflects}
+use Rattle.bus.proofs.RefusedQueue.{found-attached, turn-found, master-reflects}
 use Rattle.bus.proofs.RefusedReply.{slave-reflects}
 
 abbrev isDone : Verdict → Bool
@@ -118,6 +118,7 @@ answering t r = record { station = withReplies (t .station) r; told = t .told }
 -- the source, at place i, holds the telegram behind the others; everything else is as it was
 pub record Queued (b : Bus) (qq : ℕ) (t : Telegram) (c : Bus) : Type 0 where
   pub place : ℕ
+  pub attached : place < attachedTo b
   pub source : First (MasterAt qq) (turnAt b place) (attachedTurns b)
   pub accepts : accepted (turnAt b place .station .outbox) t .taken ≡ true
   pub changed : OneTurn b place (holding (turnAt b place) (accepted (turnAt b place .station .outbox) t .outbox)) c
@@ -142,6 +143,7 @@ queue-done b qq zz pb sb bytes e = go (firstOf b (Master qq)) refl e
         let t = taken-last (accepted (turnAt b i .station .outbox) (telegram (turnAt b i .station .address)) .taken) b _ _ (s .0) in
         record {
           place = i;
+          attached = found-attached (Master qq) b i found;
           source = source;
           accepts = rw own at (t .0);
           changed =
@@ -155,6 +157,7 @@ queue-done b qq zz pb sb bytes e = go (firstOf b (Master qq)) refl e
 -- the slave, at place i, has the reply in its book; everything else is as it was
 pub record Replied (b : Bus) (slave : ℕ) (r : Reply) (c : Bus) : Type 0 where
   pub place : ℕ
+  pub attached : place < attachedTo b
   pub station : First (SlaveAt slave) (turnAt b place) (attachedTurns b)
   pub accepts : written (turnAt b place .station .replies) r .taken ≡ true
   pub changed : OneTurn b place (answering (turnAt b place) (written (turnAt b place .station .replies) r .book)) c
@@ -175,6 +178,7 @@ reply-done b slave pb sb bytes e = go (firstOf b (Slave slave)) refl e
         let t = taken-last (written (turnAt b i .station .replies) given .taken) b _ _ (q .0) in
         record {
           place = i;
+          attached = found-attached (Slave slave) b i found;
           station = turn-found (SlaveAt slave) (Slave slave) (slave-reflects slave) b i found;
           accepts = t .0;
           changed = one-turn b _ i _ (p .1 ∙ q .1 ∙ t .1);

@@ -85,13 +85,19 @@ full o t = go (ltb (o .held) queueDepth) refl
 
 -- ---- the station found
 
+pub found-attached : (q : Query) (b : Bus) (i : ℕ) → firstOf b q ≡ At i → i < attachedTo b
+unfolding firstOf
+found-attached q b i e =
+    let f = found-at (meets q) unseated i (attachedTurns b) e in
+    omega (arith, f .within, length-take (attachedTo b) (b .turns))
+
 pub turn-found : (P : Turn → Type 0) (q : Query) → ((t : Turn) → Reflects (meets q t) (P t)) → (b : Bus) (i : ℕ) → firstOf b q ≡ At i
     → First P (turnAt b i) (attachedTurns b)
 unfolding firstOf turnAt
 turn-found P q r b i e =
-    let f = found-at (meets q) unseated i (attachedTurns b) e in
-    let h : i < attachedTo b = omega (arith, f .within, length-take (attachedTo b) (b .turns)) in
-    rw (getD-take (attachedTo b) (b .turns) i unseated h) at (found-first P (meets q) r unseated (attachedTurns b) i f)
+    let h = found-attached q b i e in
+    rw (getD-take (attachedTo b) (b .turns) i unseated h)
+    at (found-first P (meets q) r unseated (attachedTurns b) i (found-at (meets q) unseated i (attachedTurns b) e))
 
 pub someone : (P : Turn → Type 0) (q : Query) → ((t : Turn) → Reflects (meets q t) (P t)) → (b : Bus)
     → Reflects (isFound (firstOf b q)) (Any P (attachedTurns b))

@@ -59,7 +59,7 @@ impl Bus {
         let n = self.attached();
         let mut i: usize = 0;
         while i < n {
-            let t = self.turn(i);
+            let t = self.turns[i];
             if meets(t, q) {
                 return Found::At(i);
             }

@@ -39,7 +39,7 @@ impl Bus {
         let mut word = self.generator_says();
         let mut i: usize = 0;
         while i < n {
-            let t = self.turn(i);
+            let t = self.turns[i];
             let s = t.station;
             word = wired(word, s.ready().say());
             i += 1;

@@ -1,3 +1,4 @@
+pub mod AcceptedHeld
 pub mod AllBeside
 pub mod Anded
 pub mod AnyOrder
@@ -5,6 +6,7 @@ pub mod Arrays
 pub mod Beside
 pub mod Between
 pub mod FitKept
+pub mod FormWitnesses
 pub mod HandedOut
 pub mod InStep
 pub mod OneOwner
@@ -31,6 +33,7 @@ pub mod Together
 pub mod Twelfth
 pub mod TwelfthRun
 pub mod Upto
+pub mod WireForms
 pub mod Wired
 pub mod Witnesses
 pub mod Word

@@ -159,7 +159,8 @@ fn pass(page: &mut [u8; PAGE], at: usize, b: Bus, last: bool) -> usize
     let mut to = at;
     let mut i: usize = 0;
     while i < n {
-        to = one_of(page, to, slot, last, b.turn(i));
+        let t = b.turns[i];
+        to = one_of(page, to, slot, last, t);
         i += 1;
     }
     to

@@ -6,16 +6,15 @@ use native.Mathlib.Omega.{arith}
 use lib.ListN.{length, take}
 use Rattle.laws.proofs.Lists.{length-mapped}
 use Rattle.station.specs.Station.{ready, says}
-use Rattle.station.specs.declared.station.Turn.{Turn}
-use Rattle.bus.specs.Bus.{seats, unseated, attachedTo, turnAt}
-use Rattle.bus.specs.Slot.{generatorSays, spokenWith, saidBy, spoken}
+use Rattle.bus.specs.Bus.{seats, attachedTo}
+use Rattle.bus.specs.Slot.{generatorSays, spokenWith, spoken}
 use Rattle.bus.proofs.Loops.{attached-fit, spoken-turn}
 use Rattle.bus.proofs.bus.Bus.spoken.Statement.{statement}
 use Rattle.bus.proofs.bus.Bus.spoken.Tie as tie
 
 abbrev Inv-loop : tie.InvT-loop
 Inv-loop self n word₀ i₀ word i =
-    (i ≤ n) × (n ≡ attachedTo self) × (length (self .turns) ≡ seats) × (word ≡ spokenWith (generatorSays (self .quiet)) (take i (self .turns)))
+    (i ≤ n) × (n ≤ seats) × (n ≡ attachedTo self) × (length (self .turns) ≡ seats) × (word ≡ spokenWith (generatorSays (self .quiet)) (take i (self .turns)))
 
 abbrev μ-loop : tie.MeasureT-loop
 μ-loop self n word₀ i₀ word i = n - i
@@ -27,10 +26,15 @@ generator-says-requires : tie.Need-generator-says-requires Inv-loop μ-loop
 generator-says-requires c κs = search needs
 
 loop-holds : tie.Need-loop-holds Inv-loop μ-loop
-loop-holds c = (search needs, c .before .attached .ensures, search (needs, length-mapped), c .generator-says .ensures)
+loop-holds c =
+    let e = c .before .attached .ensures in
+    (search needs, rw e (attached-fit _), e, search (needs, length-mapped), c .generator-says .ensures)
 
-turn-requires : tie.Need-turn-requires Inv-loop μ-loop
-turn-requires c κs = search needs
+mul-t : tie.Need-mul-t Inv-loop μ-loop
+mul-t c = search needs
+
+element-copy-out-t : tie.Need-element-copy-out-t Inv-loop μ-loop
+element-copy-out-t c = search needs
 
 ready-requires : tie.Need-ready-requires Inv-loop μ-loop
 ready-requires c κs = search needs
@@ -48,16 +52,16 @@ loop-less : tie.Need-loop-less Inv-loop μ-loop
 loop-less c = omega arith
 
 loop-again : tie.Need-loop-again Inv-loop μ-loop
-unfolding turnAt
 loop-again c =
     let a = c .before .before .before .before .before .before in
-    let b = a .before .before .before .args .self in
+    let b = a .before .before .before .args .t1 in
     let h : a .loop .i < length (b .turns) = omega (arith, attached-fit b) in (
       omega arith,
       a .loop .inv .1,
       a .loop .inv .2,
-      spoken-turn (a .loop .i) (generatorSays (b .quiet)) (b .turns) unseated h (a .loop .inv .3)
-          (c .before .say .ensures ∙ ap says (c .before .before .ready .ensures) ∙ ap (λ (t : Turn). saidBy t) (c .before .before .before .before .turn .ensures))
+      a .loop .inv .3,
+      spoken-turn (a .loop .i) (generatorSays (b .quiet)) (b .turns) _ h (a .loop .inv .4)
+          (c .before .say .ensures ∙ ap says (c .before .before .ready .ensures))
           (c .wired .ensures),
     )
 
@@ -65,8 +69,8 @@ returns : tie.Need-returns Inv-loop μ-loop
 unfolding spoken
 returns c =
     let a = c .before in
-    let e : a .loop .i ≡ attachedTo (a .before .before .before .args .self) = omega arith in
-    a .loop .inv .3 ∙ ap (λ (n : ℕ). spokenWith (generatorSays (a .before .before .before .args .self .quiet)) (take n (a .before .before .before .args .self .turns))) e
+    let e : a .loop .i ≡ attachedTo (a .before .before .before .args .t1) = omega arith in
+    a .loop .inv .4 ∙ ap (λ (n : ℕ). spokenWith (generatorSays (a .before .before .before .args .t1 .quiet)) (take n (a .before .before .before .args .t1 .turns))) e
 
 pub spoken-spec : {M : Type 1} → statement M
 spoken-spec =
@@ -77,7 +81,8 @@ spoken-spec =
     attached-requires
     generator-says-requires
     loop-holds
-    turn-requires
+    mul-t
+    element-copy-out-t
     ready-requires
     say-requires
     wired-requires
