@@ -56,14 +56,15 @@ impl Bus {
         ensures { λ r. ⌜ r ≡ attaches self a master ⌝ }
     {
         if self.ran {
-            self.refused(Refusal::Running)
-        } else if no_such_address(a, master) {
-            self.refused(Refusal::NoSuchAddress)
-        } else if self.occupied(a, master) {
-            self.refused(Refusal::InUse)
-        } else {
-            self.seat(a, master)
+            return self.refused(Refusal::Running);
         }
+        if no_such_address(a, master) {
+            return self.refused(Refusal::NoSuchAddress);
+        }
+        if self.occupied(a, master) {
+            return self.refused(Refusal::InUse);
+        }
+        self.seat(a, master)
     }
 
     // Whether an address that it would answer to is in use; a master would answer to two.
@@ -86,9 +87,8 @@ impl Bus {
         if n < Bus::STATIONS {
             let mut b = self.with_turn(n, newcomer(a, master));
             b.count = n + 1;
-            b.done()
-        } else {
-            self.refused(Refusal::NoRoom)
+            return b.done();
         }
+        self.refused(Refusal::NoRoom)
     }
 }

@@ -8,7 +8,6 @@ use crate::refusal::Refusal;
 use address::Kind;
 use laws::Found;
 use station::station::Station;
-use station::station::Turn;
 use wire::form::Wire;
 use wire::part::Load;
 use wire::part::Telegram;
@@ -57,21 +56,22 @@ impl Bus {
         let t = self.turn(i);
         let source = t.station;
         if no_target(source, zz) {
-            self.refused(Refusal::NoTarget)
-        } else if no_command(pb, sb) {
-            self.refused(Refusal::NoCommand)
-        } else if 16 < bytes.len() {
-            self.refused(Refusal::TooMuchData)
-        } else {
-            let telegram = Telegram {
-                qq: source.address,
-                zz: zz,
-                pb: pb,
-                sb: sb,
-                load: Load::of(bytes),
-            };
-            self.queue_telegram(i, telegram)
+            return self.refused(Refusal::NoTarget);
         }
+        if no_command(pb, sb) {
+            return self.refused(Refusal::NoCommand);
+        }
+        if 16 < bytes.len() {
+            return self.refused(Refusal::TooMuchData);
+        }
+        let telegram = Telegram {
+            qq: source.address,
+            zz: zz,
+            pb: pb,
+            sb: sb,
+            load: Load::of(bytes),
+        };
+        self.queue_telegram(i, telegram)
     }
 
     fn queue_telegram(self, i: usize, telegram: Telegram) -> Answer
@@ -79,36 +79,24 @@ impl Bus {
     {
         let w = wire::form::telegram_form(telegram);
         if Wire::ROOM < w.len {
-            self.refused(Refusal::TooManySymbols)
-        } else {
-            self.hold(i, telegram)
+            return self.refused(Refusal::TooManySymbols);
         }
+        self.hold(i, telegram)
     }
 
     fn hold(self, i: usize, telegram: Telegram) -> Answer
         ensures { λ r. ⌜ r ≡ holds self i telegram ⌝ }
     {
-        let t = self.turn(i);
-        let source = t.station;
+        let mut t = self.turn(i);
+        let mut source = t.station;
         let outbox = source.outbox;
         let a = outbox.accept(telegram);
         if a.taken {
             let fuller = a.outbox;
-            let holder = Station {
-                outbox: fuller,
-                ..source
-            };
-            let told = t.told;
-            self.with_turn(
-                    i,
-                    Turn {
-                        station: holder,
-                        told: told,
-                    },
-                )
-                .done()
-        } else {
-            self.refused(Refusal::OutboxFull)
+            source.outbox = fuller;
+            t.station = source;
+            return self.with_turn(i, t).done();
         }
+        self.refused(Refusal::OutboxFull)
     }
 }

@@ -8,8 +8,6 @@ use crate::queue;
 use crate::refusal::Refusal;
 use laws::Found;
 use station::replies::Reply;
-use station::station::Station;
-use station::station::Turn;
 use wire::part::Load;
 
 impl Bus {
@@ -26,45 +24,34 @@ impl Bus {
         ensures { λ r. ⌜ r ≡ repliesFrom self i pb sb (now (bytes .entry)) ⌝ }
     {
         if queue::no_command(pb, sb) {
-            self.refused(Refusal::NoCommand)
-        } else if 16 < bytes.len() {
-            self.refused(Refusal::TooMuchData)
-        } else {
-            self.write(
-                i,
-                Reply {
-                    pb: pb,
-                    sb: sb,
-                    load: Load::of(bytes),
-                },
-            )
+            return self.refused(Refusal::NoCommand);
         }
+        if 16 < bytes.len() {
+            return self.refused(Refusal::TooMuchData);
+        }
+        self.write(
+            i,
+            Reply {
+                pb: pb,
+                sb: sb,
+                load: Load::of(bytes),
+            },
+        )
     }
 
     fn write(self, i: usize, reply: Reply) -> Answer
         ensures { λ r. ⌜ r ≡ writes self i reply ⌝ }
     {
-        let t = self.turn(i);
-        let slave = t.station;
+        let mut t = self.turn(i);
+        let mut slave = t.station;
         let book = slave.replies;
         let w = book.write(reply);
         if w.taken {
             let fuller = w.book;
-            let holder = Station {
-                replies: fuller,
-                ..slave
-            };
-            let told = t.told;
-            self.with_turn(
-                    i,
-                    Turn {
-                        station: holder,
-                        told: told,
-                    },
-                )
-                .done()
-        } else {
-            self.refused(Refusal::BookFull)
+            slave.replies = fuller;
+            t.station = slave;
+            return self.with_turn(i, t).done();
         }
+        self.refused(Refusal::BookFull)
     }
 }

@@ -59,29 +59,27 @@ impl Bus {
         ensures { λ r. ⌜ r ≡ stride self left ⌝ }
     {
         if 0 < left {
+            let fewer = left - 1;
             if 9 < left {
                 if self.at_rest() {
-                    Stop {
+                    return Stop {
                         bus: self.later(left - left % 10),
                         left: left % 10,
-                    }
-                } else {
-                    Stop {
-                        bus: self.slot(),
-                        left: left - 1,
-                    }
+                    };
                 }
-            } else {
-                Stop {
+                return Stop {
                     bus: self.slot(),
-                    left: left - 1,
-                }
+                    left: fewer,
+                };
             }
-        } else {
-            Stop {
-                bus: self,
-                left: left,
-            }
+            return Stop {
+                bus: self.slot(),
+                left: fewer,
+            };
+        }
+        Stop {
+            bus: self,
+            left: left,
         }
     }
 }

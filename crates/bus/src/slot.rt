@@ -19,6 +19,14 @@ fn wired(a: Sound, b: Sound) -> Sound
     }
 }
 
+// What a station makes of what is heard.
+fn turned(t: Turn, heard: Sound) -> Turn
+    ensures { λ r. ⌜ r ≡ turned heard t ⌝ }
+{
+    let s = t.station;
+    s.ready().hear(heard)
+}
+
 impl Bus {
     // The generator sends AA after nine quiet slots in a row.
     pub(crate) const PATIENCE: u8 = 9;
@@ -82,8 +90,7 @@ impl Bus {
         let mut i: usize = 0;
         while i < n {
             let t = self.turns[i];
-            let s = t.station;
-            let u = s.ready().hear(heard);
+            let u = turned(t, heard);
             self.turns[i] = u;
             i += 1;
         }

@@ -70,48 +70,45 @@ turn : (s : Station) (b : ℕ) → kindOf b ≡ Syn → hears s (Symbol b) ≡ h
 unfolding hears
 turn s b e = ap (λ (k : Kind). hearsAs k s b) e
 
+-- whatever becomes of an owner and of the others
+by-owner : (P : Turn → Type 0) (o : Bool) {t u : Turn} → (o ≡ true → P t) → (o ≡ false → P u) → P (cond o t u)
+by-owner P true own other = own refl
+by-owner P false own other = other refl
+
 told-of : (s : Station) → hearSyn s .told ≡ toldBySyn (s .phase)
 unfolding hearSyn
-told-of s = either (owner (s .phase))
-  where
-    either : (o : Bool) → cond {A = Turn} o (record { station = restarted (left s); told = toldBySyn (s .phase) })
-        (record { station = restarted s; told = toldBySyn (s .phase) }) .told ≡ toldBySyn (s .phase)
-    either true = refl
-    either false = refl
+told-of s = by-owner (λ (t : Turn). t .told ≡ toldBySyn (s .phase)) (owner (s .phase)) (λ _. refl) (λ _. refl)
 
 after-of : (s : Station) → AfterSyn s (hearSyn s .station)
 unfolding hearSyn restarted left admits
-after-of s = either (owner (s .phase)) refl
-  where
-    either : (o : Bool) → owner (s .phase) ≡ o
-        → AfterSyn s (cond {A = Turn} o (record { station = restarted (left s); told = toldBySyn (s .phase) })
-        (record { station = restarted s; told = toldBySyn (s .phase) }) .station)
-    either true e =
-        record {
-          phase = refl;
-          owns-not = refl;
-          admitted = refl;
-          marked = refl;
-          since = refl;
-          address = refl;
-          master = refl;
-          replies = refl;
-          part = refl;
-          outbox = rw e;
-        }
-    either false e =
-        record {
-          phase = refl;
-          owns-not = refl;
-          admitted = refl;
-          marked = refl;
-          since = refl;
-          address = refl;
-          master = refl;
-          replies = refl;
-          part = refl;
-          outbox = rw e;
-        }
+after-of s =
+    by-owner (λ (t : Turn). AfterSyn s (t .station)) (owner (s .phase))
+    (λ e.
+    record {
+      phase = refl;
+      owns-not = refl;
+      admitted = refl;
+      marked = refl;
+      since = refl;
+      address = refl;
+      master = refl;
+      replies = refl;
+      part = refl;
+      outbox = rw e;
+    })
+    (λ e.
+    record {
+      phase = refl;
+      owns-not = refl;
+      admitted = refl;
+      marked = refl;
+      since = refl;
+      address = refl;
+      master = refl;
+      replies = refl;
+      part = refl;
+      outbox = rw e;
+    })
 
 -- after an AA every station reads from the start; it owns nothing, marks go out, and `admits` says who may bid
 pub after-syn : (s : Station) {h : Sound} → IsSyn h → AfterSyn s (hears s h .station)

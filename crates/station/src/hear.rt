@@ -18,14 +18,14 @@ impl Station {
     pub fn hear(self, heard: Sound) -> Turn
         ensures { λ r. ⌜ r ≡ hears self heard ⌝ }
     {
-        match heard {
-            Sound::Quiet => self.hear_quiet(),
-            Sound::Symbol(s) => match wire::symbol::kind_of(s) {
-                Kind::Syn => self.hear_syn(),
-                Kind::Escape => self.hear_symbol(s),
-                Kind::Count => self.hear_symbol(s),
-                Kind::Plain => self.hear_symbol(s),
-            },
+        let Sound::Symbol(s) = heard else {
+            return self.hear_quiet();
+        };
+        match wire::symbol::kind_of(s) {
+            Kind::Syn => self.hear_syn(),
+            Kind::Escape => self.hear_symbol(s),
+            Kind::Count => self.hear_symbol(s),
+            Kind::Plain => self.hear_symbol(s),
         }
     }
 
@@ -49,15 +49,14 @@ impl Station {
         let phase = self.phase;
         let told = phase.told_by_syn();
         if phase.owns() {
-            Turn {
+            return Turn {
                 station: self.leave().restart(),
                 told: told,
-            }
-        } else {
-            Turn {
-                station: self.restart(),
-                told: told,
-            }
+            };
+        }
+        Turn {
+            station: self.restart(),
+            told: told,
         }
     }
 
@@ -94,36 +93,33 @@ impl Station {
         }
     }
 
-    fn hear_quiet(self) -> Turn
+    fn hear_quiet(mut self) -> Turn
         ensures { λ r. ⌜ r ≡ hearQuiet self ⌝ }
     {
         let phase = self.phase;
-        let over = Station {
-            admitted: false,
-            ..self
-        };
+        self.admitted = false;
         match phase {
-            Phase::Silent => over.go(phase, Told::Silence),
+            Phase::Silent => self.go(phase, Told::Silence),
             Phase::Reading {
                 cursor: _,
                 part: _,
                 attempt: _,
-            } => over.go(phase, Told::Silence),
+            } => self.go(phase, Told::Silence),
             Phase::Sending {
                 at: _,
                 part,
                 attempt: _,
-            } => over.disturbed(part),
+            } => self.disturbed(part),
             Phase::Awaiting {
                 part: _,
                 attempt: _,
-            } => over.go(phase, Told::Silence),
+            } => self.go(phase, Told::Silence),
             Phase::Judging {
                 part,
                 attempt,
                 matched,
                 acknowledged: _,
-            } => over.go(
+            } => self.go(
                 Phase::Judging {
                     part: part,
                     attempt: attempt,
@@ -132,8 +128,8 @@ impl Station {
                 },
                 Told::Silence,
             ),
-            Phase::Owing => over.go(phase, Told::Silence),
-            Phase::Releasing => over.release(),
+            Phase::Owing => self.go(phase, Told::Silence),
+            Phase::Releasing => self.release(),
         }
     }
 
@@ -178,10 +174,9 @@ impl Station {
         ensures { λ r. ⌜ r ≡ hearReading self s cursor part attempt ⌝ }
     {
         if self.bids() {
-            self.noted().hear_bid(s, cursor, part, attempt)
-        } else {
-            self.noted().read(s, cursor, part, attempt)
+            return self.noted().hear_bid(s, cursor, part, attempt);
         }
+        self.noted().read(s, cursor, part, attempt)
     }
 }
 

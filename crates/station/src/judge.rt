@@ -15,12 +15,12 @@ impl Station {
         ensures { λ r. ⌜ r ≡ judges self s part attempt matched ⌝ }
     {
         if s == Station::ACK {
-            self.judge_taken(part, matched)
-        } else if s == Station::NAK {
-            self.read_again(part, attempt)
-        } else {
-            self.unread(part, Failure::NoAcknowledgement)
+            return self.judge_taken(part, matched);
         }
+        if s == Station::NAK {
+            return self.read_again(part, attempt);
+        }
+        self.unread(part, Failure::NoAcknowledgement)
     }
 
     // 00 after a wrong CRC hands nothing out.
@@ -28,10 +28,9 @@ impl Station {
         ensures { λ r. ⌜ r ≡ judgedTaken self part matched ⌝ }
     {
         if matched {
-            self.hand_out(part)
-        } else {
-            self.unread(part, Failure::NoAcknowledgement)
+            return self.hand_out(part);
         }
+        self.unread(part, Failure::NoAcknowledgement)
     }
 
     fn hand_out(self, part: Part) -> Turn
@@ -40,10 +39,9 @@ impl Station {
         match part {
             Part::MasterPart => {
                 if self.answered() {
-                    self.go(Phase::Owing, Told::Given)
-                } else {
-                    self.go(Phase::Silent, Told::Given)
+                    return self.go(Phase::Owing, Told::Given);
                 }
+                self.go(Phase::Silent, Told::Given)
             }
             Part::AnswerPart => self.go(Phase::Releasing, Told::Answered),
         }

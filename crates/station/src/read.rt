@@ -51,22 +51,22 @@ impl Station {
     }
 
     // One symbol more of the part that it reads.
-    pub(crate) fn read(self, s: u8, cursor: Cursor, part: Part, attempt: Attempt) -> Turn
+    pub(crate) fn read(mut self, s: u8, cursor: Cursor, part: Part, attempt: Attempt) -> Turn
         ensures { λ r. ⌜ r ≡ reads self s cursor part attempt ⌝ }
     {
         let so_far = self.part;
         let step = cursor.read(so_far, s);
         let read = step.part;
-        let after = Station { part: read, ..self };
+        self.part = read;
         let outcome = step.outcome;
         match outcome {
-            Outcome::More => after.read_on(step.cursor, part, attempt),
-            Outcome::Cut => after.unread(part, Failure::SynHeard),
-            Outcome::NoMaster => after.unread(part, Failure::PairBroken),
-            Outcome::Unusable => after.unread(part, Failure::PairBroken),
-            Outcome::TooLong => after.whole(part, attempt, false),
-            Outcome::BrokenPair => after.unread(part, Failure::PairBroken),
-            Outcome::Whole(matched) => after.whole(part, attempt, matched),
+            Outcome::More => self.read_on(step.cursor, part, attempt),
+            Outcome::Cut => self.unread(part, Failure::SynHeard),
+            Outcome::NoMaster => self.unread(part, Failure::PairBroken),
+            Outcome::Unusable => self.unread(part, Failure::PairBroken),
+            Outcome::TooLong => self.whole(part, attempt, false),
+            Outcome::BrokenPair => self.unread(part, Failure::PairBroken),
+            Outcome::Whole(matched) => self.whole(part, attempt, matched),
         }
     }
 
@@ -80,27 +80,22 @@ impl Station {
             attempt: attempt,
         };
         let place = cursor.place;
-        match place {
-            Place::Qq => self.go(on, Told::Silence),
-            Place::Zz => self.go(on, Told::Silence),
-            Place::Pb => self.addressed(on),
-            Place::Sb => self.go(on, Told::Silence),
-            Place::Nn => self.go(on, Told::Silence),
-            Place::Data(_) => self.go(on, Told::Silence),
-            Place::Crc => self.go(on, Told::Silence),
-        }
+        let Place::Pb = place else {
+            return self.go(on, Told::Silence);
+        };
+        self.addressed(on)
     }
 
     fn addressed(self, on: Phase) -> Turn
         ensures { λ r. ⌜ r ≡ addressed self on ⌝ }
     {
         if self.is_own(self.part.zz) {
-            self.go(on, Told::Silence)
-        } else if self.for_all() {
-            self.go(on, Told::Silence)
-        } else {
-            self.go(Phase::Silent, Told::Silence)
+            return self.go(on, Told::Silence);
         }
+        if self.for_all() {
+            return self.go(on, Told::Silence);
+        }
+        self.go(Phase::Silent, Told::Silence)
     }
 
     // The part has come to its end. A broadcast is handed out at once; any other part is acknowledged.
@@ -117,13 +112,11 @@ impl Station {
             Part::MasterPart => {
                 if self.for_all() {
                     if matched {
-                        self.go(Phase::Silent, Told::Given)
-                    } else {
-                        self.go(Phase::Silent, Told::Silence)
+                        return self.go(Phase::Silent, Told::Given);
                     }
-                } else {
-                    self.go(judging, Told::Silence)
+                    return self.go(Phase::Silent, Told::Silence);
                 }
+                self.go(judging, Told::Silence)
             }
             Part::AnswerPart => self.go(judging, Told::Silence),
         }

@@ -62,10 +62,9 @@ impl Station {
         ensures { λ r. ⌜ r ≡ hearBid self s cursor part attempt ⌝ }
     {
         if s == self.address {
-            self.owned()
-        } else {
-            self.withdrawn(s).read(s, cursor, part, attempt)
+            return self.owned();
         }
+        self.withdrawn(s).read(s, cursor, part, attempt)
     }
 
     // It heard its own QQ: it owns the wire, and ZZ comes next.
@@ -91,14 +90,11 @@ impl Station {
     }
 
     // It heard another symbol: it marks itself if the low half is its class.
-    fn withdrawn(self, s: u8) -> Station
+    fn withdrawn(mut self, s: u8) -> Station
         ensures { λ r. ⌜ r ≡ withdrawn self s ⌝ }
     {
-        let marked = s % 16 == self.address % 16;
-        Station {
-            marked: marked,
-            ..self
-        }
+        self.marked = s % 16 == self.address % 16;
+        self
     }
 
     pub(crate) fn hear_own(self, s: u8, at: usize, part: Part, attempt: Attempt) -> Turn
@@ -108,10 +104,9 @@ impl Station {
             Sound::Quiet => self.disturbed(part),
             Sound::Symbol(own) => {
                 if own == s {
-                    self.sent(at, part, attempt)
-                } else {
-                    self.disturbed(part)
+                    return self.sent(at, part, attempt);
                 }
+                self.disturbed(part)
             }
         }
     }
@@ -122,48 +117,38 @@ impl Station {
     {
         let out = self.out;
         if at < Wire::ROOM {
-            if at + 1 < out.len {
-                self.go(
+            let next = at + 1;
+            if next < out.len {
+                return self.go(
                     Phase::Sending {
-                        at: at + 1,
+                        at: next,
                         part: part,
                         attempt: attempt,
                     },
                     Told::Silence,
-                )
-            } else {
-                self.sent_whole(part, attempt)
+                );
             }
-        } else {
-            self.sent_whole(part, attempt)
+            return self.sent_whole(part, attempt);
         }
+        self.sent_whole(part, attempt)
     }
 
     // A broadcast is taken when its last symbol is heard; any other part awaits its acknowledgement.
     fn sent_whole(self, part: Part, attempt: Attempt) -> Turn
         ensures { λ r. ⌜ r ≡ sentWhole self part attempt ⌝ }
     {
+        let awaiting = Phase::Awaiting {
+            part: part,
+            attempt: attempt,
+        };
         match part {
             Part::MasterPart => {
                 if self.for_all() {
-                    self.go(Phase::Releasing, Told::Taken)
-                } else {
-                    self.go(
-                        Phase::Awaiting {
-                            part: part,
-                            attempt: attempt,
-                        },
-                        Told::Silence,
-                    )
+                    return self.go(Phase::Releasing, Told::Taken);
                 }
+                self.go(awaiting, Told::Silence)
             }
-            Part::AnswerPart => self.go(
-                Phase::Awaiting {
-                    part: part,
-                    attempt: attempt,
-                },
-                Told::Silence,
-            ),
+            Part::AnswerPart => self.go(awaiting, Told::Silence),
         }
     }
 
@@ -172,12 +157,12 @@ impl Station {
         ensures { λ r. ⌜ r ≡ hearReply self s part attempt ⌝ }
     {
         if s == Station::ACK {
-            self.taken(part)
-        } else if s == Station::NAK {
-            self.refused(part, attempt)
-        } else {
-            self.failed(part, Failure::NoAcknowledgement)
+            return self.taken(part);
         }
+        if s == Station::NAK {
+            return self.refused(part, attempt);
+        }
+        self.failed(part, Failure::NoAcknowledgement)
     }
 
     // A part sent to a slave address is answered, with an attempt count of its own.
@@ -187,17 +172,16 @@ impl Station {
         match part {
             Part::MasterPart => {
                 if self.answered() {
-                    self.go(
+                    return self.go(
                         Phase::Reading {
                             cursor: Cursor::answer(),
                             part: Part::AnswerPart,
                             attempt: Attempt::First,
                         },
                         Told::Taken,
-                    )
-                } else {
-                    self.go(Phase::Releasing, Told::Taken)
+                    );
                 }
+                self.go(Phase::Releasing, Told::Taken)
             }
             Part::AnswerPart => self.go(Phase::Silent, Told::Taken),
         }

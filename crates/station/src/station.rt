@@ -85,31 +85,10 @@ impl Station {
         ensures { λ r. ⌜ r ≡ ready self ⌝ }
     {
         let phase = self.phase;
-        match phase {
-            Phase::Silent => self,
-            Phase::Reading {
-                cursor: _,
-                part: _,
-                attempt: _,
-            } => self,
-            Phase::Sending {
-                at: _,
-                part: _,
-                attempt: _,
-            } => self,
-            Phase::Awaiting {
-                part: _,
-                attempt: _,
-            } => self,
-            Phase::Judging {
-                part: _,
-                attempt: _,
-                matched: _,
-                acknowledged: _,
-            } => self,
-            Phase::Owing => self.answering(),
-            Phase::Releasing => self,
-        }
+        let Phase::Owing = phase else {
+            return self;
+        };
+        self.answering()
     }
 
     fn answering(self) -> Station

@@ -69,12 +69,12 @@ attach-spec =
     tie.close
     (tie.spec
     refused-requires
+    returns
     no-such-address-requires
     refused-requires-2
+    returns-2
     occupied-requires
     refused-requires-3
-    seat-requires
-    returns
-    returns-2
     returns-3
+    seat-requires
     returns-4)

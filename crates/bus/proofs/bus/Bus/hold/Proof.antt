@@ -25,9 +25,9 @@ returns c =
     simp (
       c .done .ensures,
       c .before .with-turn .ensures,
-      c .before .before .before .before .before .before .if1 .taken,
-      ← c .before .before .before .before .before .before .before .accept .ensures,
-      ← c .before .before .before .before .before .before .before .before .before .before .turn .ensures,
+      c .before .before .before .if1 .taken,
+      ← c .before .before .before .before .accept .ensures,
+      ← c .before .before .before .before .before .before .before .turn .ensures,
     )
 
 returns-2 : tie.Need-returns-2
@@ -48,6 +48,6 @@ hold-spec =
     accept-requires
     with-turn-requires
     done-requires
-    refused-requires
     returns
+    refused-requires
     returns-2)

@@ -85,12 +85,12 @@ queue-from-spec =
     turn-requires
     no-target-requires
     refused-requires
+    returns
     no-command-requires
     refused-requires-2
+    returns-2
     refused-requires-3
+    returns-3
     of-requires
     queue-telegram-requires
-    returns
-    returns-2
-    returns-3
     returns-4)

@@ -35,4 +35,10 @@ returns-2 c =
 
 pub queue-telegram-spec : {M : Type 1} → statement M
 queue-telegram-spec =
-    tie.close (tie.spec telegram-form-requires refused-requires hold-requires returns returns-2)
+    tie.close
+    (tie.spec
+    telegram-form-requires
+    refused-requires
+    returns
+    hold-requires
+    returns-2)

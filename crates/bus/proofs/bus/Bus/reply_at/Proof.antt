@@ -56,9 +56,9 @@ reply-at-spec =
     (tie.spec
     no-command-requires
     refused-requires
+    returns
     refused-requires-2
+    returns-2
     of-requires
     write-requires
-    returns
-    returns-2
     returns-3)

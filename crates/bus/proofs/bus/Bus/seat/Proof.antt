@@ -47,6 +47,6 @@ seat-spec =
     with-turn-requires
     add-b
     done-requires
-    refused-requires
     returns
+    refused-requires
     returns-2)

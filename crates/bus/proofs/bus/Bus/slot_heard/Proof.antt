@@ -1,8 +1,6 @@
 -- `bus::bus::Bus::slot_heard` meets its contract. Assumes nothing.
-use Rattle.station.specs.Hear.{hears}
-use Rattle.station.specs.declared.station.Station.{Station}
 use borrow.Author.Needs.{needs}
-use mathlib.Core.Path.{_≡_, refl, ap, _∙_}
+use mathlib.Core.Path.{_≡_, refl}
 use Prim.Native.Nat.{_≤_, _<_, _-_}
 use native.Mathlib.Omega.{arith}
 use lib.ListN.{length}
@@ -38,11 +36,8 @@ mul-t c = search needs
 element-copy-out-t : tie.Need-element-copy-out-t Inv-loop μ-loop
 element-copy-out-t c = search needs
 
-ready-requires : tie.Need-ready-requires Inv-loop μ-loop
-ready-requires c κs = search needs
-
-hear-requires : tie.Need-hear-requires Inv-loop μ-loop
-hear-requires c κs = search needs
+turned-requires : tie.Need-turned-requires Inv-loop μ-loop
+turned-requires c κs = search needs
 
 mul-u : tie.Need-mul-u Inv-loop μ-loop
 mul-u c = search needs
@@ -58,14 +53,14 @@ loop-less c = omega arith
 
 loop-again : tie.Need-loop-again Inv-loop μ-loop
 loop-again c =
-    let a = c .before .before .before .before .before in
+    let a = c .before .before .before in
     let h : a .loop .i < length (a .before .before .before .args .t1 .turns) = omega arith in (
       omega arith,
       omega arith,
       a .loop .inv .2,
       a .loop .inv .3,
       mapFirst-turn (turned (a .before .before .before .args .heard)) _ _ _ h (a .loop .inv .4)
-          (c .hear .ensures ∙ ap (λ (s : Station). hears s (a .before .before .before .args .heard)) (c .before .ready .ensures)),
+          (c .turned .ensures),
       a .loop .inv .5,
       a .loop .inv .6,
     )
@@ -98,8 +93,7 @@ slot-heard-spec =
     loop-holds
     mul-t
     element-copy-out-t
-    ready-requires
-    hear-requires
+    turned-requires
     mul-u
     element-set-from-u
     add-i

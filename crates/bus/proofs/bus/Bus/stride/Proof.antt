@@ -17,14 +17,11 @@ later-requires c κs = search needs
 slot-requires : tie.Need-slot-requires
 slot-requires c κs = search needs
 
-sub-t14 : tie.Need-sub-t14
-sub-t14 c = search needs
-
 slot-requires-2 : tie.Need-slot-requires-2
 slot-requires-2 c κs = search needs
 
-sub-t16 : tie.Need-sub-t16
-sub-t16 c = search needs
+sub-fewer : tie.Need-sub-fewer
+sub-fewer c = search needs
 
 returns : tie.Need-returns
 unfolding stride
@@ -67,14 +64,13 @@ pub stride-spec : {M : Type 1} → statement M
 stride-spec =
     tie.close
     (tie.spec
+    sub-fewer
     at-rest-requires
     sub-later
     later-requires
-    slot-requires
-    sub-t14
-    slot-requires-2
-    sub-t16
     returns
+    slot-requires
     returns-2
+    slot-requires-2
     returns-3
     returns-4)

@@ -56,9 +56,9 @@ addressed-spec =
     (tie.spec
     is-own-requires
     go-requires
+    returns
     for-all-requires
     go-requires-2
-    go-requires-3
-    returns
     returns-2
+    go-requires-3
     returns-3)

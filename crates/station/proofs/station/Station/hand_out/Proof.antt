@@ -57,9 +57,9 @@ hand-out-spec =
     enum-told
     answered-requires
     go-requires
+    returns
     go-requires-2
     enum-told-2
     go-requires-3
-    returns
     returns-2
     returns-3)

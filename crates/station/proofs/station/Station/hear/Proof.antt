@@ -92,9 +92,10 @@ pub hear-spec : {M : Type 1} → statement M
 hear-spec =
     tie.close
     (tie.spec
+    enum-known-heard
     enum-told
     hear-quiet-requires
-    enum-known-heard
+    returns
     kind-of-requires
     enum-told-2
     hear-syn-requires
@@ -104,7 +105,6 @@ hear-spec =
     hear-symbol-requires-2
     enum-told-5
     hear-symbol-requires-3
-    returns
     returns-2
     returns-3
     returns-4

@@ -33,4 +33,10 @@ returns-2 c =
 
 pub hear-bid-spec : {M : Type 1} → statement M
 hear-bid-spec =
-    tie.close (tie.spec owned-requires withdrawn-requires read-requires returns returns-2)
+    tie.close
+    (tie.spec
+    owned-requires
+    returns
+    withdrawn-requires
+    read-requires
+    returns-2)

@@ -27,19 +27,19 @@ returns : tie.Need-returns
 unfolding hearOwn
 returns c =
     simp (
-      c .disturbed .ensures,
-      c .before .enum-told .given .1,
-      ← c .before .before .before .due .ensures,
+      c .sent .ensures,
+      eq-eqb _ _ (c .before .if1 .taken),
+      c .before .before .before .own .given .1,
+      ← c .before .before .before .before .before .due .ensures,
     )
 
 returns-2 : tie.Need-returns-2
 unfolding hearOwn
 returns-2 c =
     simp (
-      c .sent .ensures,
-      eq-eqb _ _ (c .before .if1 .taken),
-      c .before .before .before .own .given .1,
-      ← c .before .before .before .before .before .due .ensures,
+      c .disturbed .ensures,
+      c .before .enum-told .given .1,
+      ← c .before .before .before .due .ensures,
     )
 
 returns-3 : tie.Need-returns-3
@@ -61,7 +61,7 @@ hear-own-spec =
     disturbed-requires
     enum-known-own
     sent-requires
-    disturbed-requires-2
     returns
+    disturbed-requires-2
     returns-2
     returns-3)

@@ -46,7 +46,7 @@ hear-reading-spec =
     bids-requires
     noted-requires
     hear-bid-requires
+    returns
     noted-requires-2
     read-requires
-    returns
     returns-2)

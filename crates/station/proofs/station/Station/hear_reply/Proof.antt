@@ -43,4 +43,10 @@ returns-3 c =
 pub hear-reply-spec : {M : Type 1} → statement M
 hear-reply-spec =
     tie.close
-    (tie.spec taken-requires refused-requires failed-requires returns returns-2 returns-3)
+    (tie.spec
+    taken-requires
+    returns
+    refused-requires
+    returns-2
+    failed-requires
+    returns-3)

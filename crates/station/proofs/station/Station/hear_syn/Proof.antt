@@ -48,6 +48,6 @@ hear-syn-spec =
     owns-requires
     leave-requires
     restart-requires
-    restart-requires-2
     returns
+    restart-requires-2
     returns-2)

@@ -43,4 +43,10 @@ returns-3 c =
 pub judge-spec : {M : Type 1} → statement M
 judge-spec =
     tie.close
-    (tie.spec judge-taken-requires read-again-requires unread-requires returns returns-2 returns-3)
+    (tie.spec
+    judge-taken-requires
+    returns
+    read-again-requires
+    returns-2
+    unread-requires
+    returns-3)

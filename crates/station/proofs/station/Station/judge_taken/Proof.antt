@@ -27,4 +27,10 @@ returns-2 c =
     )
 
 pub judge-taken-spec : {M : Type 1} → statement M
-judge-taken-spec = tie.close (tie.spec hand-out-requires unread-requires returns returns-2)
+judge-taken-spec =
+    tie.close
+    (tie.spec
+    hand-out-requires
+    returns
+    unread-requires
+    returns-2)

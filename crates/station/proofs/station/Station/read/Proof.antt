@@ -70,25 +70,25 @@ through s symbol cur p a t o r e f g =
     g ∙ ap (λ (q : Outcome). readsAs q (withPart s (t .part)) (t .cursor) p a) (sym f) ∙ ap (λ (u : Step). readsStep u s p a) e
 
 returns : tie.Need-returns
-returns c = through _ _ _ _ _ _ _ _ (c .before .before .before .before .before .before .before .read .ensures) (c .before .enum-told .given .1) (c .read-on .ensures)
+returns c = through _ _ _ _ _ _ _ _ (c .before .before .before .before .read .ensures) (c .before .enum-told .given .1) (c .read-on .ensures)
 
 returns-2 : tie.Need-returns-2
-returns-2 c = through _ _ _ _ _ _ _ _ (c .before .before .before .before .before .before .before .read .ensures) (c .before .enum-told2 .given .1) (c .unread .ensures)
+returns-2 c = through _ _ _ _ _ _ _ _ (c .before .before .before .before .read .ensures) (c .before .enum-told2 .given .1) (c .unread .ensures)
 
 returns-3 : tie.Need-returns-3
-returns-3 c = through _ _ _ _ _ _ _ _ (c .before .before .before .before .before .before .before .read .ensures) (c .before .enum-told3 .given .1) (c .unread2 .ensures)
+returns-3 c = through _ _ _ _ _ _ _ _ (c .before .before .before .before .read .ensures) (c .before .enum-told3 .given .1) (c .unread2 .ensures)
 
 returns-4 : tie.Need-returns-4
-returns-4 c = through _ _ _ _ _ _ _ _ (c .before .before .before .before .before .before .before .read .ensures) (c .before .enum-told4 .given .1) (c .unread3 .ensures)
+returns-4 c = through _ _ _ _ _ _ _ _ (c .before .before .before .before .read .ensures) (c .before .enum-told4 .given .1) (c .unread3 .ensures)
 
 returns-5 : tie.Need-returns-5
-returns-5 c = through _ _ _ _ _ _ _ _ (c .before .before .before .before .before .before .before .read .ensures) (c .before .enum-told5 .given .1) (c .whole .ensures)
+returns-5 c = through _ _ _ _ _ _ _ _ (c .before .before .before .before .read .ensures) (c .before .enum-told5 .given .1) (c .whole .ensures)
 
 returns-6 : tie.Need-returns-6
-returns-6 c = through _ _ _ _ _ _ _ _ (c .before .before .before .before .before .before .before .read .ensures) (c .before .enum-told6 .given .1) (c .unread4 .ensures)
+returns-6 c = through _ _ _ _ _ _ _ _ (c .before .before .before .before .read .ensures) (c .before .enum-told6 .given .1) (c .unread4 .ensures)
 
 returns-7 : tie.Need-returns-7
-returns-7 c = through _ _ _ _ _ _ _ _ (c .before .before .before .before .before .before .before .before .read .ensures) (c .before .before .outcome .given .1) (c .whole2 .ensures)
+returns-7 c = through _ _ _ _ _ _ _ _ (c .before .before .before .before .before .read .ensures) (c .before .before .outcome .given .1) (c .whole2 .ensures)
 
 pub read-spec : {M : Type 1} → statement M
 read-spec =

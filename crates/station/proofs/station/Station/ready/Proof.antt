@@ -1,93 +1,44 @@
 -- `station::station::Station::ready` meets its contract. Assumes nothing.
-use Rattle.station.specs.Station.{ready}
+use mathlib.Core.Path.{_≡_, refl}
+use mathlib.Core.List.{[], _∷_}
+use types.Run.{OneOf, miss}
+use denote.Enum.Declared.{tagOf}
 use borrow.Author.Needs.{needs}
+use Rattle.station.specs.declared.phase.Phase.{Phase}
+use Rattle.station.specs.declared.phase.Phase.the-variants.{Silent, Reading, Sending, Awaiting, Judging, Owing, Releasing}
+use Rattle.station.specs.declared.station.Station.{Station}
+use Rattle.station.specs.Station.{readyAt, ready}
+use Rattle.station.proofs.phase.Phase.{the-type}
 use Rattle.station.proofs.station.Station.ready.Statement.{statement}
 use Rattle.station.proofs.station.Station.ready.Tie as tie
 
 enum-told : tie.Need-enum-told
 enum-told c = search needs
 
-enum-told-2 : tie.Need-enum-told-2
-enum-told-2 c = search needs
-
-enum-told-3 : tie.Need-enum-told-3
-enum-told-3 c = search needs
-
-enum-told-4 : tie.Need-enum-told-4
-enum-told-4 c = search needs
-
-enum-told-5 : tie.Need-enum-told-5
-enum-told-5 c = search needs
-
-enum-told-6 : tie.Need-enum-told-6
-enum-told-6 c = search needs
-
 answering-requires : tie.Need-answering-requires
 answering-requires c κs = search needs
 
-enum-told-7 : tie.Need-enum-told-7
-enum-told-7 c = search needs
+-- in every phase but `Owing`, the sixth
+stays : (p : Phase) (s : Station) → OneOf (0 ∷ 1 ∷ 2 ∷ 3 ∷ 4 ∷ 6 ∷ []) (tagOf the-type p) → s ≡ readyAt p s
+stays Silent s k = refl
+stays (Reading c p a) s k = refl
+stays (Sending at p a) s k = refl
+stays (Awaiting p a) s k = refl
+stays (Judging p a m n) s k = refl
+stays Owing s k = absurd (miss (0 ∷ 1 ∷ 2 ∷ 3 ∷ 4 ∷ 6 ∷ []) 5 tt k)
+stays Releasing s k = refl
 
 returns : tie.Need-returns
 unfolding ready
-returns c =
-    simp
-    (c .enum-told .given .1)
+returns c = stays (c .before .args .self .phase) _ (c .match .keys2)
 
 returns-2 : tie.Need-returns-2
 unfolding ready
 returns-2 c =
-    simp
-    (c .enum-told2 .given .1)
-
-returns-3 : tie.Need-returns-3
-unfolding ready
-returns-3 c =
-    simp
-    (c .enum-told3 .given .1)
-
-returns-4 : tie.Need-returns-4
-unfolding ready
-returns-4 c =
-    simp
-    (c .enum-told4 .given .1)
-
-returns-5 : tie.Need-returns-5
-unfolding ready
-returns-5 c =
-    simp
-    (c .enum-told5 .given .1)
-
-returns-6 : tie.Need-returns-6
-unfolding ready
-returns-6 c =
     simp (
       c .answering .ensures,
-      c .before .enum-told6 .given .1,
+      c .before .enum-told .given .1,
     )
 
-returns-7 : tie.Need-returns-7
-unfolding ready
-returns-7 c =
-    simp
-    (c .enum-told7 .given .1)
-
 pub ready-spec : {M : Type 1} → statement M
-ready-spec =
-    tie.close
-    (tie.spec
-    enum-told
-    enum-told-2
-    enum-told-3
-    enum-told-4
-    enum-told-5
-    enum-told-6
-    answering-requires
-    enum-told-7
-    returns
-    returns-2
-    returns-3
-    returns-4
-    returns-5
-    returns-6
-    returns-7)
+ready-spec = tie.close (tie.spec enum-told returns answering-requires returns-2)

@@ -5,11 +5,8 @@ use borrow.Author.Needs.{needs}
 use Rattle.station.proofs.station.Station.sent.Statement.{statement}
 use Rattle.station.proofs.station.Station.sent.Tie as tie
 
-add-if2 : tie.Need-add-if2
-add-if2 c = search needs
-
-add-t11 : tie.Need-add-t11
-add-t11 c = search needs
+add-next : tie.Need-add-next
+add-next c = search needs
 
 go-requires : tie.Need-go-requires
 go-requires c κs = search needs
@@ -50,11 +47,10 @@ pub sent-spec : {M : Type 1} → statement M
 sent-spec =
     tie.close
     (tie.spec
-    add-if2
-    add-t11
+    add-next
     go-requires
-    sent-whole-requires
-    sent-whole-requires-2
     returns
+    sent-whole-requires
     returns-2
+    sent-whole-requires-2
     returns-3)

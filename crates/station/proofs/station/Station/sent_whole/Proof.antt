@@ -57,9 +57,9 @@ sent-whole-spec =
     enum-told
     for-all-requires
     go-requires
+    returns
     go-requires-2
     enum-told-2
     go-requires-3
-    returns
     returns-2
     returns-3)

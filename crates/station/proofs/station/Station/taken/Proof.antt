@@ -62,9 +62,9 @@ taken-spec =
     answered-requires
     answer-requires
     go-requires
+    returns
     go-requires-2
     enum-told-2
     go-requires-3
-    returns
     returns-2
     returns-3)

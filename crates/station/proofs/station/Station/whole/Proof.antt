@@ -72,11 +72,11 @@ whole-spec =
     enum-told
     for-all-requires
     go-requires
+    returns
     go-requires-2
+    returns-2
     go-requires-3
     enum-told-2
     go-requires-4
-    returns
-    returns-2
     returns-3
     returns-4)
