@@ -30,7 +30,7 @@ use Rattle.station.specs.Replies.{answerFor}
 use Rattle.station.specs.Turn.{goes, withPart}
 use Rattle.station.specs.Judge.{handedOut, judgedTaken, readAgain, judges}
 use Rattle.station.specs.Send.{left, disturbed, failed, sentWhole, sent, hearOwn, taken, refused, hearReply}
-use Rattle.station.specs.Hear.{overNow, noted, hearQuietAt, hearSymbolAt, hearQuiet, hearReading, hears}
+use Rattle.station.specs.Hear.{noted, hearReading, hears}
 use Rattle.station.specs.declared.phase.Part.the-variants.{MasterPart, AnswerPart}
 use Rattle.station.specs.declared.phase.Attempt.{Attempt}
 use Rattle.station.specs.declared.phase.Attempt.the-variants.{First, Again}
@@ -48,9 +48,10 @@ use Rattle.station.proofs.Moves.{Moves, silent-on, owing-on, reading-waits, awa
 use Rattle.station.proofs.Possible.{Possible, InAnswer, no-pb, Fit, reading-answer, answer-goes-on, bids-at-start}
 use Rattle.station.proofs.Turned.{moves-of}
 use Rattle.promises.proofs.Arrays.{AllEntriesFull, answer-full}
+use Rattle.promises.proofs.AtPhase.{symbol-at, quiet-at}
 use Rattle.promises.proofs.OthersTold.{stranger, all-given}
 use Rattle.promises.proofs.Outgoing.{ownAs, Outgoing}
-use Rattle.promises.proofs.SenderHeard.{hears-symbol, form-two, due-is, sent-last, sent-more}
+use Rattle.promises.proofs.SenderHeard.{form-two, due-is, sent-last, sent-more}
 use Rattle.promises.proofs.Upto.{Since, Upto, sendsMaster, Sends, other, sending, awaiting, JudgesIt, Follows}
 
 -- the owner's part was taken or came to nothing: it awaits, reads or judges the answer, or releases the wire
@@ -115,14 +116,7 @@ enters (reads-again _) e f = e
 enters gives-nothing e f = refl
 enters answer-lost e f = e
 
--- ---- a slot, by the phase
-
-pub quiet-at : (s : Station) (p : Phase) → s .phase ≡ p → hears s Quiet ≡ hearQuietAt p (overNow s)
-unfolding hears hearQuiet
-quiet-at s p e = ap (λ (q : Phase). hearQuietAt q (overNow s)) e
-
-pub symbol-at : (s : Station) (b : ℕ) → (kindOf b ≡ Syn → ⊥) → (p : Phase) → s .phase ≡ p → hears s (Symbol b) ≡ hearSymbolAt p s b
-symbol-at s b k p e = hears-symbol s b k ∙ ap (λ (q : Phase). hearSymbolAt q s b) e
+-- ---- tests, and who is silent
 
 stays-silent : (t : Turn) (x : Station) {d : Sound} → NoSyn d → x .phase ≡ Silent → BesideTurn t (hears x d)
 unfolding goes

@@ -37,7 +37,7 @@ use Rattle.bus.proofs.Loops.{attached-fit}
 use Rattle.laws.proofs.FirstIs.{Every, none, next, missing-each}
 use Rattle.promises.specs.Calls.{Call, ByteCall, Reachable}
 use Rattle.promises.specs.Fit.{stationAt, Addressed, Fit}
-use Rattle.promises.proofs.Seats.{withNewcomer, Did, refused, attached, queued, replied, holdingMore, answeringMore, attached-turn, attached-slot, attached-before, attached-newcomer, turn-same, turn-other, newcomer-seat, other-seat, slot-seat, whole-slot, of-reachable, by-call}
+use Rattle.promises.proofs.Seats.{either-false, withNewcomer, Did, refused, attached, queued, replied, holdingMore, answeringMore, attached-turn, attached-slot, attached-before, attached-newcomer, turn-same, turn-other, newcomer-seat, other-seat, slot-seat, whole-slot, of-reachable, by-call}
 
 -- ---- who a station is
 
@@ -86,10 +86,6 @@ nobody-has b a w e i h = go (firstFrom (meets (Owner a)) 0 (attachedTurns b)) re
         let k : i < length (attachedTurns b) = omega arith in
         let r = every-at (missing-each (meets (Owner a)) 0 (attachedTurns b) q) i unseated k in
         ap (λ (t : Turn). isOwn (t .station) a) (sym (getD-take (attachedTo b) (b .turns) i unseated h)) ∙ r
-
-either-false : (s t : Bool) → cond s true t ≡ false → (s ≡ false) × (t ≡ false)
-either-false true t e = absurd (true≢false e)
-either-false false t e = (refl, e)
 
 -- what a newcomer would answer to, nobody does
 apart-from : (b : Bus) (a : ℕ) (m : Bool) → length (b .turns) ≡ seats → occupied b a m ≡ false → (i x : ℕ) → i < attachedTo b

@@ -3,6 +3,7 @@ pub mod AllBeside
 pub mod Anded
 pub mod AnyOrder
 pub mod Arrays
+pub mod AtPhase
 pub mod Beside
 pub mod Between
 pub mod FitKept

@@ -1,14 +1,12 @@
 -- At most one station owns the wire (01, "Admission"). An owner's address is the first symbol that was heard since the last
 -- AA, the same for all; and the addresses are apart. Assumes nothing.
 use mathlib.Core.Path.{_≡_, refl, sym, ap, subst, _∙_}
-use mathlib.Core.Bool.{Bool, true, false, cond, false≢true}
+use mathlib.Core.Bool.{Bool, true, false, false≢true}
 use Prim.Native.Nat.{ℕ, _<_}
 use native.Mathlib.Omega.{arith}
 use native.Mathlib.Nat.{not-suc-le-zero}
-use lib.Dec.{ltb}
-use Rattle.station.specs.Outbox.{heldIn}
 use Rattle.station.specs.Phase.{owner}
-use Rattle.station.specs.Station.{fresh, ready, bids}
+use Rattle.station.specs.Station.{fresh, ready}
 use Rattle.station.specs.Hear.{hears}
 use Rattle.station.specs.declared.phase.Sound.{Sound}
 use Rattle.station.specs.declared.phase.Sound.the-variants.{Quiet, Symbol}
@@ -27,6 +25,7 @@ use Rattle.bus.specs.Attach.{newcomer}
 use Rattle.bus.specs.Slot.{slotHeard}
 use Rattle.promises.specs.Calls.{Call, Reachable}
 use Rattle.promises.specs.Fit.{stationAt}
+use Rattle.promises.proofs.AtPhase.{bidder-admitted}
 use Rattle.promises.proofs.FitKept.{reachable-fit, one-address}
 use Rattle.promises.proofs.Seats.{Whole, Did, Seat, as-it-was, newly-taken, holds-more, answers-more, seat-after, attached-slot, slot-seat, whole-answer, whole-slot, of-reachable, by-call}
 
@@ -66,14 +65,6 @@ ready-follows {f} s w =
     begun as-it-stood e = w .admitted e
     begun (answers _) e = w .admitted e
 
-bidder-admitted : (s : Station) → bids s ≡ true → s .admitted ≡ true
-unfolding bids
-bidder-admitted s e = go (s .admitted) e
-  where
-    go : (a : Bool) → cond a (ltb 0 (heldIn (s .outbox))) false ≡ true → a ≡ true
-    go true e = refl
-    go false e = e
-
 quiet-not : {b : ℕ} → Quiet ≡ Symbol b → ⊥
 quiet-not e = let z : _≡_ {A = ℕ} 0 1 = cc in omega arith
 
@@ -111,7 +102,7 @@ module _ {f : FirstHeard} (s : Station) (w : Follows f s) where
       by-owner false o e =
           let won = becomes-owner s {h = Symbol b} (w .possible) o e in
           let own : b ≡ s .address = cc (won .1) in
-          rw (w .admitted (bidder-admitted s (won .0))) (ap first own)
+          rw (w .admitted (bidder-admitted s (won .0) .0)) (ap first own)
 
 -- ---- the bus: all have heard the same
 

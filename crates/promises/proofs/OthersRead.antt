@@ -8,7 +8,7 @@ use Prim.Native.Nat.{ℕ, _+_, _≤_}
 use native.Mathlib.Omega.{arith}
 use native.Mathlib.Decide.{ℕ-discrete}
 use borrow.Author.Tests.{ne-eqb}
-use lib.Dec.{eqb, ltb}
+use lib.Dec.{eqb}
 use lib.ListN.{length, length-append}
 use Rattle.wire.specs.Form.{covered, form, telegramForm}
 use Rattle.wire.specs.Reader.{masterStart, readOne}
@@ -22,13 +22,12 @@ use Rattle.wire.specs.declared.reader.Place.the-variants.{Qq, Zz, Pb, Sb, Nn, D
 use Rattle.wire.specs.declared.symbol.Kind.the-variants.{Syn}
 use Rattle.wire.proofs.Reached.{Reached, reached-none, reached-more, reached-so-far, form-more, form-whole}
 use Rattle.wire.proofs.SoFar as so
-use Rattle.station.specs.Outbox.{heldIn}
 use Rattle.station.specs.Read.{forAll, isOwn, whole, addressed, readOn, readOnAt, reads}
 use Rattle.station.specs.Station.{nak, bids}
 use Rattle.station.specs.Turn.{goes, withPart}
 use Rattle.station.specs.Judge.{readAgain, judges}
 use Rattle.station.specs.Send.{owned, withdrawn, hearBid}
-use Rattle.station.specs.Hear.{overNow, noted, hearQuietAt, hearSymbolAt, hearQuiet, hearReading, hears}
+use Rattle.station.specs.Hear.{noted, hearReading, hears}
 use Rattle.station.specs.declared.phase.Part.the-variants.{MasterPart}
 use Rattle.station.specs.declared.phase.Attempt.{Attempt}
 use Rattle.station.specs.declared.phase.Attempt.the-variants.{First, Again}
@@ -38,8 +37,8 @@ use Rattle.station.specs.declared.phase.Sound.the-variants.{Quiet, Symbol}
 use Rattle.station.specs.declared.phase.Told.the-variants.{Silence, Given}
 use Rattle.station.specs.declared.station.Station.{Station}
 use Rattle.station.specs.declared.station.Turn.{Turn}
+use Rattle.promises.proofs.AtPhase.{symbol-at, quiet-at, bidder-admitted}
 use Rattle.promises.proofs.Outgoing.{ownAs}
-use Rattle.promises.proofs.SenderHeard.{hears-symbol}
 use Rattle.promises.proofs.Upto.{Since, before, since, sinceNext, Upto, start, more, again, Stranger, wanted, ReadsIt, JudgesIt, Keen, Listens}
 
 -- ---- a reader's turn
@@ -113,7 +112,7 @@ by-entering : (s : Station) (b : ℕ) (c : Cursor) (n : Attempt) (P : Turn → T
     → P (hears s (Symbol b))
 unfolding hearReading hearBid
 by-entering s b c n P e k f p q =
-    subst P (sym (hears-symbol s b k ∙ ap (λ (q : Phase). hearSymbolAt q s b) e)) (by-bid (bids s) refl)
+    subst P (sym (symbol-at s b k (Reading c MasterPart n) e)) (by-bid (bids s) refl)
   where
     by-address : (r : Bool) → r ≡ false → P (cond r (owned (noted s)) (reads (withdrawn (noted s) b) b c MasterPart n))
     by-address true g = absurd (true≢false g)
@@ -186,14 +185,6 @@ not-empty t e = let q = form-four t in let z = ap length (e ∙ q .1) in omega (
 
 -- ---- a symbol
 
-pub bidder-admitted : (s : Station) → bids s ≡ true → s .admitted ≡ true
-unfolding bids
-bidder-admitted s e = by (s .admitted) (ltb 0 (heldIn (s .outbox))) e
-  where
-    by : (a t : Bool) → cond a t false ≡ true → a ≡ true
-    by true t e = refl
-    by false t e = e
-
 start-only : {t : Telegram} {n : Attempt} {xs : List ℕ} {h : Since} → Upto t n xs h → h ≡ since [] → xs ≡ []
 start-only start e = refl
 start-only (more u) e = let z : _≡_ {A = ℕ} 0 1 = cc e in absurd (omega arith)
@@ -205,7 +196,7 @@ module _ (s : Station) (h : Since) (adm : s .admitted ≡ true → h ≡ since [
   pub no-win : (t : Telegram) (n : Attempt) (xs : List ℕ) (b : ℕ) (ys : List ℕ) → Stranger (s .address) t → Upto t n xs h
       → telegramForm t ≡ xs ++ (b ∷ ys) → bids s ≡ true → b ≡ s .address → ⊥
   no-win t n xs b ys o u f i e =
-      let x = start-only u (adm (bidder-admitted s i)) in
+      let x = start-only u (adm (bidder-admitted s i .0)) in
       let g : telegramForm t ≡ b ∷ ys = f ∙ ap (λ (l : List ℕ). l ++ (b ∷ ys)) x in
       let q = form-four t in
       let j : t .qq ≡ b = cc (g, q .1) in
@@ -300,7 +291,7 @@ module _ (s : Station) (h : Since) (adm : s .admitted ≡ true → h ≡ since [
 
     stays-silent : s .phase ≡ Silent → hears s (Symbol b) .station .phase ≡ Silent
     unfolding goes
-    stays-silent e = ap (λ (t : Turn). t .station .phase) (hears-symbol s b k ∙ ap (λ (q : Phase). hearSymbolAt q s b) e)
+    stays-silent e = ap (λ (t : Turn). t .station .phase) (symbol-at s b k Silent e)
 
     -- FF: it reads the part again
     reads-once-more : {q : Bool} → b ≡ nak → s .phase ≡ Judging MasterPart First true q
@@ -308,7 +299,7 @@ module _ (s : Station) (h : Since) (adm : s .admitted ≡ true → h ≡ since [
     unfolding judges readAgain goes noted
     reads-once-more {q} e p =
         let i : hears s (Symbol b) ≡ goes (noted s) (Reading masterStart MasterPart Again) Silence =
-        hears-symbol s b k ∙ ap (λ (q : Phase). hearSymbolAt q s b) p ∙ rw e refl in
+        symbol-at s b k (Judging MasterPart First true q) p ∙ rw e refl in
         let a : hears s (Symbol b) .station .part ≡ s .part = ap (λ (t : Turn). t .station .part) i in
         record {
           cursor = masterStart;
@@ -396,14 +387,10 @@ symbol-listens s (since l) adm array w b k =
 -- ---- quiet
 
 module _ (s : Station) (h : Since) (w : Listens h (s .address) (s .master) (s .part) (s .phase)) where
-  quiet-at : (p : Phase) → s .phase ≡ p → hears s Quiet ≡ hearQuietAt p (overNow s)
-  unfolding hears hearQuiet
-  quiet-at p e = ap (λ (q : Phase). hearQuietAt q (overNow s)) e
-
   quiet-reads : {n : Attempt} {xs : List ℕ} → ReadsIt (s .part) (s .phase) n xs → ReadsIt (hears s Quiet .station .part) (hears s Quiet .station .phase) n xs
   unfolding goes
   quiet-reads {n} r =
-      let i = quiet-at (Reading (r .cursor) MasterPart n) (r .phase) in
+      let i = quiet-at s (Reading (r .cursor) MasterPart n) (r .phase) in
       let a : hears s Quiet .station .part ≡ s .part = ap (λ (t : Turn). t .station .part) i in
       record {
         cursor = r .cursor;
@@ -416,13 +403,13 @@ module _ (s : Station) (h : Since) (w : Listens h (s .address) (s .master) (s .p
   quiet-judges : {n : Attempt} {t : Telegram} → JudgesIt (s .part) (s .phase) n t → JudgesIt (hears s Quiet .station .part) (hears s Quiet .station .phase) n t
   unfolding goes
   quiet-judges {n} r =
-      let i = quiet-at (Judging MasterPart n true (r .acknowledged)) (r .phase) in
+      let i = quiet-at s (Judging MasterPart n true (r .acknowledged)) (r .phase) in
       let a : hears s Quiet .station .part ≡ s .part = ap (λ (t : Turn). t .station .part) i in
       record { acknowledged = true; phase = ap (λ (t : Turn). t .station .phase) i; same = rw a (r .same) }
 
   quiet-silent : s .phase ≡ Silent → hears s Quiet .station .phase ≡ Silent
   unfolding goes
-  quiet-silent e = ap (λ (t : Turn). t .station .phase) (quiet-at Silent e)
+  quiet-silent e = ap (λ (t : Turn). t .station .phase) (quiet-at s Silent e)
 
   pub quiet-listens : Listens h (s .address) (s .master) (hears s Quiet .station .part) (hears s Quiet .station .phase)
   quiet-listens =

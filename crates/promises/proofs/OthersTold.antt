@@ -14,19 +14,19 @@ use Rattle.station.specs.Read.{forAll, answered}
 use Rattle.station.specs.Station.{ack}
 use Rattle.station.specs.Turn.{goes}
 use Rattle.station.specs.Judge.{handedOut, judgedTaken, judges}
-use Rattle.station.specs.Hear.{noted, hearSymbolAt, hears}
+use Rattle.station.specs.Hear.{noted, hears}
 use Rattle.station.specs.declared.phase.Part.the-variants.{MasterPart}
 use Rattle.station.specs.declared.phase.Attempt.{Attempt}
-use Rattle.station.specs.declared.phase.Phase.{Phase}
-use Rattle.station.specs.declared.phase.Phase.the-variants.{Silent}
+use Rattle.station.specs.declared.phase.Phase.the-variants.{Silent, Judging}
 use Rattle.station.specs.declared.phase.Sound.the-variants.{Symbol}
 use Rattle.station.specs.declared.station.Station.{Station}
 use Rattle.station.specs.declared.station.Turn.{Turn}
 use Rattle.promises.specs.Transfers.{IsGiven, HandsOutNothing}
+use Rattle.promises.proofs.AtPhase.{symbol-at}
 use Rattle.promises.proofs.InStep.{handsOut}
 use Rattle.promises.proofs.OthersRead.{no-win, at-end, hears-given}
 use Rattle.promises.proofs.Outgoing.{ownAs, Outgoing}
-use Rattle.promises.proofs.SenderHeard.{hears-symbol, form-two}
+use Rattle.promises.proofs.SenderHeard.{form-two}
 use Rattle.promises.proofs.Upto.{Since, Upto, Stranger, JudgesIt, Follows}
 
 pub hands-out-nothing : (t : Turn) → handsOut (t .told) ≡ false → HandsOutNothing t
@@ -61,7 +61,7 @@ module _ {h : Since} (s : Station) (w : Follows h s) (t : Telegram) (o : Strange
   one-given f a e own =
       let j = w .listens .judges t n xs o (rw own refl) a u f in
       let i : hears s (Symbol b) ≡ handedOut (noted s) MasterPart =
-      hears-symbol s b k ∙ ap (λ (q : Phase). hearSymbolAt q s b) (j .phase) ∙ rw e refl in
+      symbol-at s b k (Judging MasterPart n true (j .acknowledged)) (j .phase) ∙ rw e refl in
       by-turn j i (answered (s .part .zz)) refl
     where
       by-turn : JudgesIt (s .part) (s .phase) n t → hears s (Symbol b) ≡ handedOut (noted s) MasterPart → (r : Bool) → answered (s .part .zz) ≡ r
@@ -76,4 +76,4 @@ module _ {h : Since} (s : Station) (w : Follows h s) (t : Telegram) (o : Strange
       let q = form-two t in
       let i =
       w .listens .deaf t n xs [] o (rw (own, a) refl) u (sym f ∙ sym (append-nil xs)) (inr (omega (arith, ap length (f ∙ q .2)))) in
-      hands-out-nothing (hears s (Symbol b)) (ap (λ (t : Turn). handsOut (t .told)) (hears-symbol s b k ∙ ap (λ (q : Phase). hearSymbolAt q s b) i))
+      hands-out-nothing (hears s (Symbol b)) (ap (λ (t : Turn). handsOut (t .told)) (symbol-at s b k Silent i))

@@ -42,7 +42,7 @@ use Rattle.laws.proofs.FirstIs.{Every, none, next}
 use Rattle.promises.specs.Calls.{Call, afterCall, afterCalls, ByteCall, ByteCalls, Reachable, by-calls}
 use Rattle.promises.specs.Fit.{stationAt, Fit}
 use Rattle.promises.proofs.Arrays.{every-append}
-use Rattle.promises.proofs.Seats.{holdingMore}
+use Rattle.promises.proofs.Seats.{either-false, holdingMore}
 
 -- ---- induction over calls, with the bus before each call reachable
 
@@ -149,10 +149,6 @@ found {A} test d i j (a ∷ l) e = go (test a) refl (found test d (suc i) j l) e
         → cond t (At i) (firstFrom test (suc i) l) ≡ At j → (k : ℕ) × (j ≡ i + k) × (k < length (a ∷ l)) × (test (getD (a ∷ l) k d) ≡ true)
     go true q on e = let f : i ≡ j = cc e in (0, omega arith, omega arith, q)
     go false q on e = let r = on e in (suc (r .0), omega (arith, r .1), omega (arith, r .2), r .3)
-
-either-false : (s t : Bool) → cond s true t ≡ false → (s ≡ false) × (t ≡ false)
-either-false true t e = absurd (true≢false e)
-either-false false t e = (refl, e)
 
 usable-not : (z : ℕ) → unusable z ≡ false → Usable z
 unfolding unusable kindOf isMaster halfIndex

@@ -1,7 +1,7 @@
 -- What a call makes of the bus, seat by seat: nothing, a newcomer, a telegram or a reply more, or a slot. Assumes nothing.
 use mathlib.Core.Path.{_≡_, refl, _∙_}
 use mathlib.Core.Logic.{_≢_}
-use mathlib.Core.Bool.{Bool, true, false, cond}
+use mathlib.Core.Bool.{Bool, true, false, cond, true≢false}
 use mathlib.Core.List.{List, [], _∷_}
 use Prim.Native.Nat.{ℕ, zero, suc, _+_, _<_}
 use native.Mathlib.Omega.{arith}
@@ -38,6 +38,10 @@ use Rattle.bus.specs.Reply.{withReplies, writes, repliesFrom, repliesAt, replie
 use Rattle.bus.specs.Slot.{spoken, turned, mapFirst, slotHeard, slotRun}
 use Rattle.bus.proofs.Loops.{attached-fit, length-mapFirst}
 use Rattle.promises.specs.Calls.{Call, attach, queue, reply, slot, heard, afterCall, afterCalls, ByteCall, ByteCalls, Reachable, by-calls}
+
+pub either-false : (s t : Bool) → cond s true t ≡ false → (s ≡ false) × (t ≡ false)
+either-false true t e = absurd (true≢false e)
+either-false false t e = (refl, e)
 
 -- the bus with a newcomer in the next seat
 abbrev pub withNewcomer : Bus → ℕ → Bool → Bus

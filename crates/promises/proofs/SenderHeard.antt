@@ -1,25 +1,24 @@
 -- The sender of a master part, slot by slot: what was heard since AA is its part as far as it has sent it. Assumes nothing.
-use mathlib.Core.Path.{_≡_, refl, sym, ap, subst, _∙_}
-use mathlib.Core.Bool.{Bool, true, false, cond, true≢false, false≢true}
+use mathlib.Core.Path.{_≡_, refl, sym, ap, _∙_}
+use mathlib.Core.Bool.{Bool, true, false, cond, true≢false}
 use mathlib.Core.List.{List, [], _∷_, _++_, append-assoc}
 use Prim.Native.Nat.{ℕ, suc, _+_, _-_, _≤_, _<_}
 use native.Mathlib.Omega.{arith}
-use borrow.Author.Tests.{eqb-true, eqb-false, eq-eqb, lt-ltb, le-ltb, ltb-true}
-use lib.Dec.{eqb, ltb}
+use borrow.Author.Tests.{eqb-true, eqb-false, eq-eqb, lt-ltb, le-ltb}
+use lib.Dec.{eqb}
 use lib.ListN.{length, getD, replicate, length-append}
 use Rattle.wire.specs.Form.{room, covered, form, telegramForm, holding}
 use Rattle.wire.specs.Symbol.{kindOf}
 use Rattle.wire.specs.declared.form.Wire.{Wire}
 use Rattle.wire.specs.declared.part.Telegram.{Telegram}
-use Rattle.wire.specs.declared.symbol.Kind.{Kind}
-use Rattle.wire.specs.declared.symbol.Kind.the-variants.{Syn, Escape, Count, Plain}
+use Rattle.wire.specs.declared.symbol.Kind.the-variants.{Syn}
 use Rattle.wire.proofs.Symbols.{telegram-fits}
-use Rattle.station.specs.Outbox.{heldIn, oldestOf}
+use Rattle.station.specs.Outbox.{oldestOf}
 use Rattle.station.specs.Read.{forAll, answered}
 use Rattle.station.specs.Station.{ack, nak, due, bids}
 use Rattle.station.specs.Turn.{goes}
 use Rattle.station.specs.Send.{left, disturbed, failed, owned, hearBid, sentWhole, sent, hearOwn, taken, refused, hearReply}
-use Rattle.station.specs.Hear.{overNow, noted, hearQuietAt, hearSymbolAt, hearsAs, hearQuiet, hearReading, hearSymbol, hears}
+use Rattle.station.specs.Hear.{overNow, noted, hearQuietAt, hearSymbolAt, hearQuiet, hearReading, hears}
 use Rattle.station.specs.declared.phase.Part.{Part}
 use Rattle.station.specs.declared.phase.Part.the-variants.{MasterPart}
 use Rattle.station.specs.declared.phase.Attempt.{Attempt}
@@ -37,20 +36,9 @@ use Rattle.station.proofs.Moves.{Moves, silent-on, owing-on, reading-waits, awa
 use Rattle.station.proofs.Possible.{Possible, bids-at-start}
 use Rattle.station.proofs.Turned.{moves-of}
 use Rattle.station.proofs.Waiting.{Kept}
+use Rattle.promises.proofs.AtPhase.{hears-symbol, symbol-at, bidder-admitted}
 use Rattle.promises.proofs.Outgoing.{Outgoing, AllOut, oldest-out}
 use Rattle.promises.proofs.Upto.{Since, since, sinceNext, Upto, start, more, again, sendsMaster, Sends, other, sending, awaiting}
-
--- ---- a slot with a symbol, by the phase
-
-pub hears-symbol : (s : Station) (b : ℕ) → (kindOf b ≡ Syn → ⊥) → hears s (Symbol b) ≡ hearSymbolAt (s .phase) s b
-unfolding hears hearSymbol
-hears-symbol s b n = go (kindOf b) refl
-  where
-    go : (k : Kind) → kindOf b ≡ k → hearsAs k s b ≡ hearSymbolAt (s .phase) s b
-    go Syn e = absurd (n e)
-    go Escape e = refl
-    go Count e = refl
-    go Plain e = refl
 
 -- ---- who sends no master part sends none next, but for who wins the wire
 
@@ -208,15 +196,6 @@ module _ (s : Station) (h : Since) (w : Possible s) (k : Kept (s .outbox)) (out 
       go p e (sending xs y ys v f l o g) = rw e (record { now = other refl })
       go p e (awaiting xs v f a o g) = rw e (record { now = awaiting xs v f a o g })
 
-  bidder-admitted : bids s ≡ true → (s .admitted ≡ true) × (0 < heldIn (s .outbox))
-  unfolding bids
-  bidder-admitted e = by (s .admitted) (ltb 0 (heldIn (s .outbox))) refl e
-    where
-      by : (a t : Bool) → ltb 0 (heldIn (s .outbox)) ≡ t → cond a t false ≡ true → (a ≡ true) × (0 < heldIn (s .outbox))
-      by true true q e = (refl, ltb-true 0 (heldIn (s .outbox)) q)
-      by true false q e = absurd (false≢true e)
-      by false t q e = absurd (false≢true e)
-
   won-turn : (b : ℕ) → bids s ≡ true → b ≡ s .address → hearSymbolAt (s .phase) s b ≡ owned (noted s)
   unfolding hearReading hearBid noted bids owned
   won-turn b e o = rw (bids-at-start s w e, e, eq-eqb b (s .address) o)
@@ -224,7 +203,7 @@ module _ (s : Station) (h : Since) (w : Possible s) (k : Kept (s .outbox)) (out 
   wins-sends : (b : ℕ) → bids s ≡ true → b ≡ s .address → SendsTurn (sinceNext h b) (owned (noted s))
   unfolding owned noted
   wins-sends b e o =
-      let a = bidder-admitted e in
+      let a = bidder-admitted s e in
       let g = oldest-out (s .address) (s .master) (s .outbox) k (a .1) out in
       let q = form-two (oldestOf (s .outbox)) in
       let f : telegramForm (oldestOf (s .outbox)) ≡ b ∷ q .0 ∷ q .1 = q .2 ∙ ap (λ (c : ℕ). c ∷ q .0 ∷ q .1) (g .source ∙ sym o) in
@@ -248,6 +227,6 @@ module _ (s : Station) (h : Since) (w : Possible s) (k : Kept (s .outbox)) (out 
           by-bid true false i j = no-win (λ _. eqb-false b (s .address) j)
           by-bid false j i q = no-win (λ r. absurd (true≢false (sym r ∙ i)))
       go p e (sending xs y ys v f l o g) =
-          rw (hears-symbol s b n) (subst (λ (q : Phase). SendsTurn (sinceNext h b) (hearSymbolAt q s b)) (sym e) (own-turn (noted s) h b xs y ys v f l o g))
+          rw (symbol-at s b n p e) (own-turn (noted s) h b xs y ys v f l o g)
       go p e (awaiting {n = a} xs v f q o g) =
-          rw (hears-symbol s b n) (subst (λ (q : Phase). SendsTurn (sinceNext h b) (hearSymbolAt q s b)) (sym e) (reply-turn (noted s) h b xs a v f q o g))
+          rw (symbol-at s b n p e) (reply-turn (noted s) h b xs a v f q o g)

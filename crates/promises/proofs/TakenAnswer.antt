@@ -42,7 +42,8 @@ use Rattle.promises.specs.Fit.{stationAt}
 use Rattle.promises.specs.Slots.{AllHear}
 use Rattle.promises.specs.Transfers.{IsAnswered, HandsOutNothing, ToMaster}
 use Rattle.promises.proofs.AllBeside.{reachable-beside}
-use Rattle.promises.proofs.Beside.{pastPart, Beside, not-past, silent, owes, answers, awaits, symbol-at, ready-beside}
+use Rattle.promises.proofs.AtPhase.{symbol-at}
+use Rattle.promises.proofs.Beside.{pastPart, Beside, not-past, silent, owes, answers, awaits, ready-beside}
 use Rattle.promises.proofs.FitKept.{ready-apart}
 use Rattle.promises.proofs.InStep.{handsOut}
 use Rattle.promises.proofs.OneOwner.{one-owner}

@@ -20,7 +20,7 @@ use Rattle.station.specs.Read.{forAll, isOwn}
 use Rattle.station.specs.Station.{ack, answering, ready}
 use Rattle.station.specs.Turn.{goes}
 use Rattle.station.specs.Send.{left, disturbed, sent, hearOwn}
-use Rattle.station.specs.Hear.{noted, hearSymbolAt, hears}
+use Rattle.station.specs.Hear.{noted, hears}
 use Rattle.station.specs.declared.phase.Part.{Part}
 use Rattle.station.specs.declared.phase.Part.the-variants.{MasterPart}
 use Rattle.station.specs.declared.phase.Attempt.{Attempt}
@@ -40,12 +40,13 @@ use Rattle.promises.specs.Calls.{Call, afterCall, Reachable}
 use Rattle.promises.specs.Fit.{stationAt}
 use Rattle.promises.specs.Slots.{AllHear}
 use Rattle.promises.specs.Transfers.{IsGiven, HandsOutNothing, ToOne, ToAll}
+use Rattle.promises.proofs.AtPhase.{symbol-at}
 use Rattle.promises.proofs.FitKept.{ready-apart}
 use Rattle.promises.proofs.InStep.{handsOut}
 use Rattle.promises.proofs.OthersTold.{hands-out-nothing, stranger, all-given, one-given, other-silent}
 use Rattle.promises.proofs.Outgoing.{ownAs, own-as, Outgoing}
 use Rattle.promises.proofs.SameSymbol.{same-symbol}
-use Rattle.promises.proofs.SenderHeard.{hears-symbol, due-is, sent-more}
+use Rattle.promises.proofs.SenderHeard.{due-is, sent-more}
 use Rattle.promises.proofs.TakenBy.{isTaken, TakenBy, last-sent, acknowledged, taken-only-if}
 use Rattle.promises.proofs.Together.{reachable-together, ready-follows}
 use Rattle.promises.proofs.Upto.{Since, Upto, Sends, other, sending, awaiting, Follows, sendsMaster}
@@ -85,7 +86,7 @@ owner-taken {h} s w own e = by-taken (taken-only-if s e) e
     sender p k i j a e (other f) = absurd (clash i j f refl)
     sender {b = b} p k i j a e (sending {n = n} xs y ys u f l o g) =
         let t : hears s (Symbol b) ≡ hearOwn (noted s) b (length xs) MasterPart n =
-        hears-symbol s b k ∙ ap (λ (q : Phase). hearSymbolAt q s b) i ∙ ap (λ (q : ℕ). hearOwn (noted s) b q MasterPart n) (sym l) in
+        symbol-at s b k p i ∙ ap (λ (q : ℕ). hearOwn (noted s) b q MasterPart n) (sym l) in
         let q = last-symbol (noted s) b (s .part) xs y n (noted-out s ∙ o) (telegram-fits (s .part) (g .full)) ys f (ap (λ (t : Turn). t .told) (sym t) ∙ e) in
         let r : xs ++ (b ∷ []) ≡ telegramForm (s .part) = sym (f ∙ rw (q .0, q .1) refl) in
         sent-out xs b k u r a g
