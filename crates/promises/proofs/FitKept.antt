@@ -3,15 +3,13 @@
 use mathlib.Core.Path.{_≡_, refl, sym, ap, subst, _∙_}
 use mathlib.Core.Logic.{_≢_}
 use mathlib.Core.Bool.{Bool, true, false, cond, false≢true, true≢false}
-use mathlib.Core.List.{List}
-use Prim.Native.Nat.{ℕ, zero, suc, _≤_, _<_}
+use Prim.Native.Nat.{ℕ, _≤_, _<_}
 use native.Mathlib.Omega.{arith}
-use native.Mathlib.Nat.{not-suc-le-zero, le-of-suc-le-suc}
+use native.Mathlib.Nat.{not-suc-le-zero}
 use native.Mathlib.Decide.{ℕ-discrete}
 use borrow.Author.Tests.{eqb-true, eq-eqb, ltb-false}
 use lib.Dec.{eqb, ltb}
-use lib.ListN.{length, getD, length-set}
-use lib.Seq.{getD-take, length-take-le}
+use lib.ListN.{length, length-set}
 use Rattle.laws.specs.First.{firstFrom, isFound}
 use Rattle.laws.specs.declared.Found.{Found}
 use Rattle.laws.specs.declared.Found.the-variants.{At, Missing}
@@ -29,15 +27,14 @@ use Rattle.station.proofs.Frame.{hears-lasting, ready-lasting}
 use Rattle.bus.specs.declared.bus.Bus.{Bus}
 use Rattle.bus.specs.declared.bus.Answer.{Answer}
 use Rattle.bus.specs.declared.find.Query.the-variants.{Owner}
-use Rattle.bus.specs.Bus.{seats, unseated, poweredOn, attachedTo, attachedTurns, turnAt, withTurn}
+use Rattle.bus.specs.Bus.{seats, poweredOn, attachedTo, attachedTurns, turnAt, withTurn}
 use Rattle.bus.specs.Find.{meets, firstOf, thereIs}
 use Rattle.bus.specs.Attach.{wrongFor, noSuchAddress, occupied, newcomer}
 use Rattle.bus.specs.Slot.{slotHeard}
-use Rattle.bus.proofs.Loops.{attached-fit}
-use Rattle.laws.proofs.FirstIs.{Every, none, next, missing-each}
+use Rattle.laws.proofs.FirstIs.{missing-each}
 use Rattle.promises.specs.Calls.{Call, ByteCall, Reachable}
 use Rattle.promises.specs.Fit.{stationAt, Addressed, Fit}
-use Rattle.promises.proofs.Seats.{either-false, withNewcomer, Did, refused, attached, queued, replied, holdingMore, answeringMore, attached-turn, attached-slot, attached-before, attached-newcomer, turn-same, turn-other, newcomer-seat, other-seat, slot-seat, whole-slot, of-reachable, by-call}
+use Rattle.promises.proofs.Seats.{either-false, every-seat, withNewcomer, Did, refused, attached, queued, replied, holdingMore, answeringMore, attached-turn, attached-slot, attached-before, attached-newcomer, turn-same, turn-other, newcomer-seat, other-seat, slot-seat, whole-slot, of-reachable, by-call}
 
 -- ---- who a station is
 
@@ -68,24 +65,15 @@ still-fit b after w n same f =
 
 -- ---- the newcomer
 
-every-at : {A : Type 0} {P : A → Type 0} {l : List A} → Every P l → (i : ℕ) (d : A) → i < length l → P (getD l i d)
-every-at none i d h = absurd (not-suc-le-zero h)
-every-at (next p ps) zero d h = p
-every-at (next p ps) (suc i) d h = every-at ps i d (le-of-suc-le-suc h)
-
 -- nobody has an address that no search finds
 nobody-has : (b : Bus) (a : ℕ) → length (b .turns) ≡ seats → thereIs b (Owner a) ≡ false
     → (i : ℕ) → i < attachedTo b → isOwn (stationAt b i) a ≡ false
-unfolding thereIs firstOf turnAt
+unfolding thereIs firstOf
 nobody-has b a w e i h = go (firstFrom (meets (Owner a)) 0 (attachedTurns b)) refl e
   where
-    go : (f : Found) → firstFrom (meets (Owner a)) 0 (attachedTurns b) ≡ f → isFound f ≡ false → isOwn (getD (b .turns) i unseated .station) a ≡ false
+    go : (f : Found) → firstFrom (meets (Owner a)) 0 (attachedTurns b) ≡ f → isFound f ≡ false → isOwn (stationAt b i) a ≡ false
     go (At j) q e = absurd (true≢false e)
-    go Missing q e =
-        let n : length (attachedTurns b) ≡ attachedTo b = length-take-le (attachedTo b) (b .turns) (omega (arith, attached-fit b)) in
-        let k : i < length (attachedTurns b) = omega arith in
-        let r = every-at (missing-each (meets (Owner a)) 0 (attachedTurns b) q) i unseated k in
-        ap (λ (t : Turn). isOwn (t .station) a) (sym (getD-take (attachedTo b) (b .turns) i unseated h)) ∙ r
+    go Missing q e = every-seat (λ (t : Turn). meets (Owner a) t ≡ false) b w (missing-each (meets (Owner a)) 0 (attachedTurns b) q) i h
 
 -- what a newcomer would answer to, nobody does
 apart-from : (b : Bus) (a : ℕ) (m : Bool) → length (b .turns) ≡ seats → occupied b a m ≡ false → (i x : ℕ) → i < attachedTo b

@@ -1,5 +1,5 @@
 -- What a call makes of the bus, seat by seat: nothing, a newcomer, a telegram or a reply more, or a slot. Assumes nothing.
-use mathlib.Core.Path.{_≡_, refl, _∙_}
+use mathlib.Core.Path.{_≡_, refl, subst, _∙_}
 use mathlib.Core.Logic.{_≢_}
 use mathlib.Core.Bool.{Bool, true, false, cond, true≢false}
 use mathlib.Core.List.{List, [], _∷_}
@@ -10,7 +10,7 @@ use native.Mathlib.Decide.{ℕ-discrete}
 use borrow.Author.Tests.{ltb-true, ltb-false, lt-ltb}
 use lib.Dec.{ltb}
 use lib.ListN.{length, getD, set, length-set}
-use lib.Seq.{getD-set-same, getD-set-other}
+use lib.Seq.{getD-set-same, getD-set-other, getD-take, length-take-le}
 use Rattle.laws.specs.declared.Found.{Found}
 use Rattle.laws.specs.declared.Found.the-variants.{At, Missing}
 use Rattle.wire.specs.Form.{room, telegramForm}
@@ -30,13 +30,14 @@ use Rattle.bus.specs.declared.find.Query.the-variants.{Master, Slave}
 use Rattle.bus.specs.declared.refusal.Refusal.{Refusal}
 use Rattle.bus.specs.declared.refusal.Verdict.the-variants.{Done, Refused}
 use Rattle.bus.specs.declared.refusal.Refusal.the-variants.{NoTarget, NoCommand, TooMuchData, TooManySymbols, OutboxFull, NoMaster, NoSlave, BookFull, Running, NoSuchAddress, InUse, NoRoom}
-use Rattle.bus.specs.Bus.{seats, unseated, poweredOn, attachedTo, turnAt, withTurn, refusedBy, done}
+use Rattle.bus.specs.Bus.{seats, unseated, poweredOn, attachedTo, attachedTurns, turnAt, withTurn, refusedBy, done}
 use Rattle.bus.specs.Find.{firstOf}
 use Rattle.bus.specs.Attach.{noSuchAddress, occupied, newcomer, takesSeat, attaches}
 use Rattle.bus.specs.Queue.{noTarget, noCommand, holds, queuesTelegram, queuesFrom, queuesAt, queues}
 use Rattle.bus.specs.Reply.{withReplies, writes, repliesFrom, repliesAt, replies}
 use Rattle.bus.specs.Slot.{spoken, turned, mapFirst, slotHeard, slotRun}
 use Rattle.bus.proofs.Loops.{attached-fit, length-mapFirst}
+use Rattle.laws.proofs.FirstIs.{Every, none, next}
 use Rattle.promises.specs.Calls.{Call, attach, queue, reply, slot, heard, afterCall, afterCalls, ByteCall, ByteCalls, Reachable, by-calls}
 
 pub either-false : (s t : Bool) → cond s true t ≡ false → (s ≡ false) × (t ≡ false)
@@ -128,6 +129,18 @@ attached-turn b i t = refl
 pub attached-slot : (b : Bus) (h : Sound) → attachedTo (slotHeard b h) ≡ attachedTo b
 unfolding attachedTo slotHeard
 attached-slot b h = refl
+
+every-at : {A : Type 0} {P : A → Type 0} {l : List A} → Every P l → (i : ℕ) (d : A) → i < length l → P (getD l i d)
+every-at none i d h = absurd (not-suc-le-zero h)
+every-at (next p ps) zero d h = p
+every-at (next p ps) (suc i) d h = every-at ps i d (le-of-suc-le-suc h)
+
+-- what holds of every attached turn holds in every seat
+pub every-seat : (P : Turn → Type 0) (b : Bus) → Whole b → Every P (attachedTurns b) → (i : ℕ) → i < attachedTo b → P (turnAt b i)
+unfolding turnAt
+every-seat P b w e i h =
+    let n : length (attachedTurns b) ≡ attachedTo b = length-take-le (attachedTo b) (b .turns) (omega (arith, attached-fit b)) in
+    subst P (getD-take (attachedTo b) (b .turns) i unseated h) (every-at e i unseated (omega (arith, n)))
 
 -- before the newcomer so many were attached, and after it one more
 pub attached-before : (b : Bus) → b .count < seats → attachedTo b ≡ b .count

@@ -24,6 +24,7 @@ use Rattle.bus.proofs.Loops.{attached-fit, length-mapFirst}
 use Rattle.promises.specs.Fit.{stationAt}
 use Rattle.promises.proofs.Anded.{and-low, and-high, and-master}
 use Rattle.promises.proofs.Round.{Opens, opens-says, bid-means}
+use Rattle.promises.proofs.Seats.{every-seat}
 
 -- ---- seat by seat
 
@@ -36,19 +37,12 @@ every-of P d zero l f = none
 every-of P d (suc n) [] f = none
 every-of P d (suc n) (t ∷ l) f = next (f 0 (omega arith)) (every-of P d n l (λ j h. f (suc j) (omega arith)))
 
-every-at : {P : Turn → Type 0} (d : Turn) (n : ℕ) (l : List Turn) → Every P (take n l) → (j : ℕ) → j < n → n ≤ length l → P (getD l j d)
-every-at d zero l e j h k = absurd (omega arith)
-every-at d (suc n) [] e j h k = absurd (omega arith)
-every-at d (suc n) (t ∷ l) (next p ps) zero h k = p
-every-at d (suc n) (t ∷ l) (next p ps) (suc j) h k = every-at d n l ps j (omega arith) (omega arith)
-
 in-list : (P : Station → Type 0) (b : Bus) → InEverySeat P b → Every (λ t. P (t .station)) (attachedTurns b)
 unfolding turnAt
 in-list P b f = every-of (λ (t : Turn). P (t .station)) unseated (attachedTo b) (b .turns) f
 
 in-seats : (P : Station → Type 0) (b : Bus) → length (b .turns) ≡ seats → Every (λ t. P (t .station)) (attachedTurns b) → InEverySeat P b
-unfolding turnAt
-in-seats P b array e j h = every-at unseated (attachedTo b) (b .turns) e j h (omega (arith, attached-fit b))
+in-seats P b array e j h = every-seat (λ (t : Turn). P (t .station)) b array e j h
 
 -- ---- the word
 
