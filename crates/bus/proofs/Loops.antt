@@ -1,13 +1,11 @@
 -- The loops over the attached stations, a turn at a time. Assumes nothing.
 use mathlib.Core.Path.{_≡_, refl, ap}
-use mathlib.Core.Bool.{Bool, true, false, cond}
 use mathlib.Core.List.{List, [], _∷_}
 use Prim.Native.Nat.{ℕ, zero, suc, _+_, _≤_, _<_}
 use native.Mathlib.Numerals.{add-one}
 use native.Mathlib.Omega.{arith}
-use borrow.Author.Tests.{ltb-true}
-use lib.Dec.{ltb}
 use lib.ListN.{length, getD, set, take}
+use Rattle.laws.proofs.AtMost.{at-most-room}
 use Rattle.station.specs.declared.phase.Sound.{Sound}
 use Rattle.station.specs.declared.station.Turn.{Turn}
 use Rattle.bus.specs.declared.bus.Bus.{Bus}
@@ -16,11 +14,7 @@ use Rattle.bus.specs.Slot.{wired, saidBy, spokenWith, mapFirst}
 
 pub attached-fit : (b : Bus) → attachedTo b ≤ seats
 unfolding attachedTo
-attached-fit b = go (ltb (b .count) seats) refl
-  where
-    go : (t : Bool) → ltb (b .count) seats ≡ t → cond t (b .count) seats ≤ seats
-    go true e = omega (arith, ltb-true (b .count) seats e)
-    go false e = omega arith
+attached-fit b = at-most-room (b .count) seats
 
 -- ---- the word
 

@@ -1,8 +1,8 @@
 -- The bus as a value: at power-on, and what a call gives back. Assumes nothing.
-use mathlib.Core.Bool.{false, cond}
+use mathlib.Core.Bool.{false}
 use mathlib.Core.List.{List}
 use Prim.Native.Nat.{ℕ}
-use lib.Dec.{ltb}
+use Rattle.laws.specs.AtMost.{atMost}
 use lib.ListN.{getD, set, take, replicate}
 use Rattle.station.specs.Station.{fresh}
 use Rattle.station.specs.declared.phase.Told.the-variants.{Silence}
@@ -26,7 +26,7 @@ poweredOn = record { turns = replicate seats unseated; count = 0; slot = 0; ran 
 
 -- how many stations are attached
 unfoldable pub attachedTo : Bus → ℕ
-attachedTo b = cond (ltb (b .count) seats) (b .count) seats
+attachedTo b = atMost (b .count) seats
 
 -- the attached stations, each with what the last slot told it, in attach order
 abbrev pub attachedTurns : Bus → List Turn

@@ -53,8 +53,7 @@ impl Bus {
     pub fn attached(self) -> usize
         ensures { λ r. ⌜ r ≡ attachedTo self ⌝ }
     {
-        let n = self.count;
-        if n < Bus::STATIONS { n } else { Bus::STATIONS }
+        laws::at_most(self.count, Bus::STATIONS)
     }
 
     pub fn turn(self, i: usize) -> Turn

@@ -1,3 +1,4 @@
+pub mod AtMost
 pub mod Computed
 pub mod First
 pub mod FirstIs

@@ -7,8 +7,8 @@ use Prim.Native.Nat.{ℕ, _≤_, _<_}
 use native.Mathlib.Omega.{arith}
 use native.Mathlib.Nat.{not-suc-le-zero}
 use native.Mathlib.Decide.{ℕ-discrete}
-use borrow.Author.Tests.{eqb-true, eq-eqb, ltb-false}
-use lib.Dec.{eqb, ltb}
+use borrow.Author.Tests.{eqb-true, eq-eqb}
+use lib.Dec.{eqb}
 use lib.ListN.{length, length-set}
 use Rattle.laws.specs.First.{firstFrom, isFound}
 use Rattle.laws.specs.declared.Found.{Found}
@@ -31,6 +31,7 @@ use Rattle.bus.specs.Bus.{seats, poweredOn, attachedTo, attachedTurns, turnAt, 
 use Rattle.bus.specs.Find.{meets, firstOf, thereIs}
 use Rattle.bus.specs.Attach.{wrongFor, noSuchAddress, occupied, newcomer}
 use Rattle.bus.specs.Slot.{slotHeard}
+use Rattle.laws.proofs.AtMost.{at-most-same}
 use Rattle.laws.proofs.FirstIs.{missing-each}
 use Rattle.promises.specs.Calls.{Call, ByteCall, Reachable}
 use Rattle.promises.specs.Fit.{stationAt, Addressed, Fit}
@@ -227,8 +228,4 @@ reachable-count r =
 -- so as many as are counted
 pub reachable-attached : {b : Bus} → Reachable b → attachedTo b ≡ b .count
 unfolding attachedTo
-reachable-attached {b} r = go (ltb (b .count) seats) refl
-  where
-    go : (t : Bool) → ltb (b .count) seats ≡ t → cond t (b .count) seats ≡ b .count
-    go true e = refl
-    go false e = omega (arith, ltb-false (b .count) seats e, reachable-count r)
+reachable-attached {b} r = at-most-same (b .count) seats (reachable-count r)

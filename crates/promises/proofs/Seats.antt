@@ -7,7 +7,7 @@ use Prim.Native.Nat.{ℕ, zero, suc, _+_, _<_}
 use native.Mathlib.Omega.{arith}
 use native.Mathlib.Nat.{not-suc-le-zero, le-of-suc-le-suc}
 use native.Mathlib.Decide.{ℕ-discrete}
-use borrow.Author.Tests.{ltb-true, ltb-false, lt-ltb}
+use borrow.Author.Tests.{ltb-true}
 use lib.Dec.{ltb}
 use lib.ListN.{length, getD, set, length-set}
 use lib.Seq.{getD-set-same, getD-set-other, getD-take, length-take-le}
@@ -37,6 +37,7 @@ use Rattle.bus.specs.Queue.{noTarget, noCommand, holds, queuesTelegram, queuesF
 use Rattle.bus.specs.Reply.{withReplies, writes, repliesFrom, repliesAt, replies}
 use Rattle.bus.specs.Slot.{spoken, turned, mapFirst, slotHeard, slotRun}
 use Rattle.bus.proofs.Loops.{attached-fit, length-mapFirst}
+use Rattle.laws.proofs.AtMost.{at-most-same}
 use Rattle.laws.proofs.FirstIs.{Every, none, next}
 use Rattle.promises.specs.Calls.{Call, attach, queue, reply, slot, heard, afterCall, afterCalls, ByteCall, ByteCalls, Reachable, by-calls}
 
@@ -145,15 +146,11 @@ every-seat P b w e i h =
 -- before the newcomer so many were attached, and after it one more
 pub attached-before : (b : Bus) → b .count < seats → attachedTo b ≡ b .count
 unfolding attachedTo
-attached-before b h = rw (lt-ltb (b .count) seats h)
+attached-before b h = at-most-same (b .count) seats (omega arith)
 
 pub attached-newcomer : (b : Bus) (a : ℕ) (m : Bool) → b .count < seats → attachedTo (withNewcomer b a m) ≡ b .count + 1
 unfolding attachedTo
-attached-newcomer b a m h = go (ltb (b .count + 1) seats) refl
-  where
-    go : (t : Bool) → ltb (b .count + 1) seats ≡ t → cond t (b .count + 1) seats ≡ b .count + 1
-    go true e = refl
-    go false e = omega (arith, ltb-false (b .count + 1) seats e)
+attached-newcomer b a m h = at-most-same (b .count + 1) seats (omega arith)
 
 -- the seat that a call is about, and the others
 pub turn-same : (b : Bus) (i : ℕ) (t : Turn) → Whole b → i < attachedTo b → turnAt (withTurn b i t) i ≡ t

@@ -16,6 +16,7 @@ use Rattle.station.specs.declared.replies.Reply.{Reply}
 use Rattle.station.specs.declared.replies.ReplyBook.{ReplyBook}
 use Rattle.station.specs.declared.replies.Written.{Written}
 use Rattle.laws.specs.First.{firstFrom}
+use Rattle.laws.proofs.AtMost.{at-most-same}
 use Rattle.laws.specs.declared.Found.{Found}
 use Rattle.laws.specs.declared.Found.the-variants.{At, Missing}
 use Rattle.station.specs.Replies.{replyEntries, noReply, noEntries, isFor, countIn, entryOf, entryAt, withEntry, added, writtenAt, written, loadAt, answerFor}
@@ -125,11 +126,7 @@ data Writes (b : ReplyBook) (r : Reply) : Found → Written → Type 0 where
 module _ (b : ReplyBook) (k : Filed b) where
   counted : countIn b ≡ b .held
   unfolding countIn
-  counted = by-test (ltb (b .held) replyEntries) refl
-    where
-      by-test : (t : Bool) → ltb (b .held) replyEntries ≡ t → cond t (b .held) replyEntries ≡ b .held
-      by-test true e = refl
-      by-test false e = omega (arith, ltb-false (b .held) replyEntries e, k .room)
+  counted = at-most-same (b .held) replyEntries (k .room)
 
   entered-length : length (entered b) ≡ b .held
   entered-length = length-take-le (b .held) (b .entries) (omega (arith, k .array, k .room))

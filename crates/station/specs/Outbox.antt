@@ -4,6 +4,7 @@ use mathlib.Core.List.{List, _++_}
 use Prim.Native.Nat.{ℕ, _+_, _-_}
 use lib.Dec.{eqb, ltb}
 use lib.ListN.{getD, set, take, drop, replicate}
+use Rattle.wire.specs.Load.{emptyLoad}
 use Rattle.wire.specs.declared.part.Telegram.{Telegram}
 use Rattle.station.specs.declared.outbox.Outbox.{Outbox}
 use Rattle.station.specs.declared.outbox.Accepted.{Accepted}
@@ -12,7 +13,7 @@ abbrev pub queueDepth : ℕ
 queueDepth = 4
 
 abbrev pub noTelegram : Telegram
-noTelegram = record { qq = 0; zz = 0; pb = 0; sb = 0; load = record { nn = 0; bytes = replicate 16 0 } }
+noTelegram = record { qq = 0; zz = 0; pb = 0; sb = 0; load = emptyLoad }
 
 unfoldable pub noneHeld : Outbox
 noneHeld = record { slots = replicate queueDepth noTelegram; held = 0 }

@@ -3,9 +3,11 @@ use mathlib.Core.Bool.{Bool, true, false, cond}
 use Prim.Native.Nat.{ℕ, _+_}
 use lib.Dec.{eqb, ltb}
 use lib.ListN.{getD, set, take, replicate}
+use Rattle.laws.specs.AtMost.{atMost}
 use Rattle.laws.specs.First.{firstFrom}
 use Rattle.laws.specs.declared.Found.{Found}
 use Rattle.laws.specs.declared.Found.the-variants.{At, Missing}
+use Rattle.wire.specs.Load.{emptyLoad}
 use Rattle.wire.specs.declared.part.Load.{Load}
 use Rattle.station.specs.declared.replies.Reply.{Reply}
 use Rattle.station.specs.declared.replies.ReplyBook.{ReplyBook}
@@ -16,7 +18,7 @@ replyEntries = 8
 
 -- NN 0
 abbrev pub noReply : Reply
-noReply = record { pb = 0; sb = 0; load = record { nn = 0; bytes = replicate 16 0 } }
+noReply = record { pb = 0; sb = 0; load = emptyLoad }
 
 unfoldable pub noEntries : ReplyBook
 noEntries = record { entries = replicate replyEntries noReply; held = 0 }
@@ -26,7 +28,7 @@ isFor e pb sb = cond (eqb (e .pb) pb) (eqb (e .sb) sb) false
 
 -- how many entries there are
 unfoldable pub countIn : ReplyBook → ℕ
-countIn b = cond (ltb (b .held) replyEntries) (b .held) replyEntries
+countIn b = atMost (b .held) replyEntries
 
 -- the first entry for PB and SB
 unfoldable pub entryOf : ReplyBook → ℕ → ℕ → Found

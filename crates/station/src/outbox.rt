@@ -26,10 +26,7 @@ fn no_telegram() -> Telegram
         zz: 0,
         pb: 0,
         sb: 0,
-        load: Load {
-            nn: 0,
-            bytes: [0; 16],
-        },
+        load: Load::empty(),
     }
 }
 

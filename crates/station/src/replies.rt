@@ -29,10 +29,7 @@ fn no_reply() -> Reply
     Reply {
         pb: 0,
         sb: 0,
-        load: Load {
-            nn: 0,
-            bytes: [0; 16],
-        },
+        load: Load::empty(),
     }
 }
 
@@ -110,12 +107,7 @@ impl ReplyBook {
     fn count(self) -> usize
         ensures { λ r. ⌜ r ≡ countIn self ⌝ }
     {
-        let n = self.held;
-        if n < Station::REPLY_ENTRIES {
-            n
-        } else {
-            Station::REPLY_ENTRIES
-        }
+        laws::at_most(self.held, Station::REPLY_ENTRIES)
     }
 
     fn entry(self, i: usize) -> Reply

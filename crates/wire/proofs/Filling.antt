@@ -1,18 +1,17 @@
 -- A part on its way into the wire buffer: what stands before the data, and the first i bytes of them. Assumes nothing.
 use mathlib.Core.Path.{_≡_, refl, sym, ap, _∙_}
-use mathlib.Core.Bool.{Bool, true, false, cond}
 use mathlib.Core.List.{List, [], _∷_, _++_, append-assoc, append-nil}
-use Prim.Native.Nat.{ℕ, _+_, _*_, _≤_, _<_, min}
+use Prim.Native.Nat.{ℕ, _+_, _*_, _≤_, _<_}
 use native.Mathlib.Omega.{arith}
-use borrow.Author.Tests.{ltb-true, ltb-false}
-use lib.Dec.{ltb}
 use lib.ListN.{length, getD, take, length-append, length-take}
 use lib.Seq.{take-all}
+use Rattle.laws.proofs.AtMost.{at-most-test, at-most-room}
 use Rattle.crc.specs.Crc.{crcOf}
 use Rattle.wire.specs.declared.form.Wire.{Wire}
 use Rattle.wire.specs.declared.part.Load.{Load}
+use Rattle.wire.specs.Load.{fitting}
 use Rattle.wire.specs.Pair.{expandOne, expand}
-use Rattle.wire.specs.Form.{room, covered, form, bytesOf, countOf, holding, heldBy, appended}
+use Rattle.wire.specs.Form.{covered, form, bytesOf, countOf, holding, heldBy, appended}
 use Rattle.wire.proofs.Buffer.{appended-holding, held-front}
 use Rattle.wire.proofs.Expand.{expand-more, length-one, length-expand}
 
@@ -38,21 +37,14 @@ turn xs bs w r i s l h p q =
 
 -- a load carries as many bytes as its count says
 pub count-at-most : (l : Load) → countOf l ≤ 16
-unfolding countOf
-count-at-most l = go (ltb (l .nn) 16) refl
-  where
-    go : (t : Bool) → ltb (l .nn) 16 ≡ t → cond t (l .nn) 16 ≤ 16
-    go true e = omega (arith, ltb-true (l .nn) 16 e)
-    go false e = omega arith
+unfolding countOf fitting
+count-at-most l = at-most-room (l .nn) 16
 
 pub counted-bytes : (l : Load) → length (l .bytes) ≡ 16 → take (countOf l) (l .bytes) ≡ bytesOf l
-unfolding countOf
-counted-bytes l h = go (ltb (l .nn) 16) refl
-  where
-    go : (t : Bool) → ltb (l .nn) 16 ≡ t → take (cond t (l .nn) 16) (l .bytes) ≡ bytesOf l
-    go true e = refl
-    go false e =
-        take-all 16 (l .bytes) (omega arith) ∙ sym (take-all (l .nn) (l .bytes) (omega (arith, ltb-false (l .nn) 16 e)))
+unfolding countOf fitting
+counted-bytes l h =
+    at-most-test (l .nn) 16 (λ (n : ℕ). take n (l .bytes) ≡ bytesOf l) (λ _. refl)
+    (λ k. take-all 16 (l .bytes) (omega arith) ∙ sym (take-all (l .nn) (l .bytes) (omega arith)))
 
 pub counted-length : (l : Load) → length (l .bytes) ≡ 16 → length (bytesOf l) ≡ countOf l
 counted-length l h =

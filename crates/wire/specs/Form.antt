@@ -1,11 +1,10 @@
 -- The wire form of a part (01, "Wire form"), and the wire buffer that holds it. Assumes nothing.
 use Prim.Native.Nat.{ℕ, _+_, _-_}
-use mathlib.Core.Bool.{cond}
 use mathlib.Core.List.{List, [], _∷_, _++_}
-use lib.Dec.{ltb}
 use lib.ListN.{length, take, replicate}
 use lib.Seq.{sets}
 use Rattle.crc.specs.Crc.{crcOf}
+use Rattle.wire.specs.Load.{fitting}
 use Rattle.wire.specs.Pair.{expandOne, expand}
 use Rattle.wire.specs.declared.form.Wire.{Wire}
 use Rattle.wire.specs.declared.part.Load.{Load}
@@ -29,7 +28,7 @@ bytesOf l = take (l .nn) (l .bytes)
 
 -- how many they are
 unfoldable pub countOf : Load → ℕ
-countOf l = cond (ltb (l .nn) 16) (l .nn) 16
+countOf l = fitting (l .nn)
 
 -- master part: QQ ZZ PB SB NN, data, CRC
 unfoldable pub telegramForm : Telegram → List ℕ

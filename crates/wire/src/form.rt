@@ -4,6 +4,7 @@ ghost use mathlib.Core.List.{[], _∷_};
 ghost use Prim.Native.Nat.{_+_, _<_, _≤_};
 ghost use Rattle.wire.specs.Pair.{expandOne};
 ghost use Rattle.wire.specs.Form.{room, holding, heldBy, appended, countOf, bytesOf, form, telegramForm, answerForm};
+use crate::part;
 use crate::part::Load;
 use crate::part::Telegram;
 use crate::symbol;
@@ -47,8 +48,7 @@ fn put(w: Wire, b: u8) -> Wire
 pub fn count_of(load: Load) -> u8
     ensures { λ r. ⌜ r ≡ countOf load ⌝ }
 {
-    let nn = load.nn;
-    if nn < 16 { nn } else { 16 }
+    part::fitting(load.nn as usize)
 }
 
 // NN, the data and the CRC, behind what stands before NN.

@@ -1,6 +1,6 @@
 // A master part and an answer as their users have them.
 ghost use mathlib.Core.Path.{_≡_};
-ghost use Rattle.wire.specs.Load.{fitting, loadOf};
+ghost use Rattle.wire.specs.Load.{emptyLoad, fitting, loadOf};
 
 // What a part carries: the first `nn` of `bytes`, 16 at most.
 pub struct Load {
@@ -18,13 +18,22 @@ pub struct Telegram {
 }
 
 // How many of so many bytes a load has room for.
-fn fitting(len: usize) -> u8
+pub(crate) fn fitting(len: usize) -> u8
     ensures { λ r. ⌜ r ≡ fitting len ⌝ }
 {
-    if len < 16 { len as u8 } else { 16 }
+    laws::at_most(len, 16) as u8
 }
 
 impl Load {
+    pub fn empty() -> Load
+        ensures { λ r. ⌜ r ≡ emptyLoad ⌝ }
+    {
+        Load {
+            nn: 0,
+            bytes: [0; 16],
+        }
+    }
+
     // The bytes of a slice, as far as there is room.
     pub fn of(s: &[u8]) -> Load
         ensures { λ r. ⌜ r ≡ loadOf (now (s .entry)) ⌝ }

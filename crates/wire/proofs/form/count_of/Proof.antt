@@ -1,20 +1,18 @@
 -- `wire::form::count_of` meets its contract. Assumes nothing.
-use borrow.Author.Tests.{lt-ltb, le-ltb}
+use borrow.Author.Needs.{needs}
 use Rattle.wire.specs.Form.{countOf}
 use Rattle.wire.proofs.form.count_of.Statement.{statement}
 use Rattle.wire.proofs.form.count_of.Tie as tie
 
+cast-fitting : tie.Need-cast-fitting
+cast-fitting c = search needs
+
+fitting-requires : tie.Need-fitting-requires
+fitting-requires c κs = search needs
+
 returns : tie.Need-returns
 unfolding countOf
-returns c =
-    simp
-    (lt-ltb _ _ (c .if1 .taken))
-
-returns-2 : tie.Need-returns-2
-unfolding countOf
-returns-2 c =
-    simp
-    (le-ltb _ _ (c .if1 .left))
+returns c = c .fitting .ensures
 
 pub count-of-spec : {M : Type 1} → statement M
-count-of-spec = tie.close (tie.spec returns returns-2)
+count-of-spec = tie.close (tie.spec cast-fitting fitting-requires returns)
