@@ -1,5 +1,5 @@
 -- A slave's reply is set: refusals 11, 3, 4, 12 in that order (01, the table). Assumes nothing.
-use mathlib.Core.Bool.{Bool, true, false, cond}
+use mathlib.Core.Bool.{cond}
 use mathlib.Core.List.{List}
 use Prim.Native.Nat.{ℕ}
 use lib.Dec.{ltb}
@@ -8,6 +8,7 @@ use Rattle.laws.specs.declared.Found.{Found}
 use Rattle.laws.specs.declared.Found.the-variants.{At, Missing}
 use Rattle.wire.specs.Load.{loadOf}
 use Rattle.station.specs.Replies.{written}
+use Rattle.station.specs.Turn.{keeping}
 use Rattle.station.specs.declared.replies.Reply.{Reply}
 use Rattle.station.specs.declared.replies.ReplyBook.{ReplyBook}
 use Rattle.station.specs.declared.replies.Written.{Written}
@@ -22,19 +23,7 @@ use Rattle.bus.specs.Find.{firstOf}
 use Rattle.bus.specs.Queue.{noCommand}
 
 abbrev pub withReplies : Station → ReplyBook → Station
-withReplies s book =
-    record {
-      address = s .address;
-      master = s .master;
-      admitted = s .admitted;
-      marked = s .marked;
-      since = s .since;
-      phase = s .phase;
-      part = s .part;
-      out = s .out;
-      outbox = s .outbox;
-      replies = book;
-    }
+withReplies s book = keeping s (s .outbox) book
 
 -- 12: 8 entries held and none has this PB and SB
 abbrev pub writesAs : Written → Bus → ℕ → Turn → Answer

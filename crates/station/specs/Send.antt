@@ -1,19 +1,17 @@
 -- The sender of a part: the owner its telegram, a slave its answer (01, "Admission", "Sending", "Acknowledgement", "Release").
 -- Assumes nothing.
-use mathlib.Core.Bool.{Bool, cond}
+use mathlib.Core.Bool.{cond}
 use Prim.Native.Nat.{ℕ, _+_}
 use lib.Dec.{eqb, ltb}
 use Rattle.address.specs.Half.{lowHalf}
 use Rattle.wire.specs.Form.{room, holding, telegramForm}
 use Rattle.wire.specs.Reader.{answerStart}
-use Rattle.wire.specs.declared.form.Wire.{Wire}
 use Rattle.wire.specs.declared.part.Telegram.{Telegram}
 use Rattle.wire.specs.declared.reader.Cursor.{Cursor}
 use Rattle.station.specs.declared.phase.Part.{Part}
 use Rattle.station.specs.declared.phase.Part.the-variants.{MasterPart, AnswerPart}
 use Rattle.station.specs.declared.phase.Attempt.{Attempt}
 use Rattle.station.specs.declared.phase.Attempt.the-variants.{First, Again}
-use Rattle.station.specs.declared.phase.Phase.{Phase}
 use Rattle.station.specs.declared.phase.Phase.the-variants.{Silent, Reading, Sending, Awaiting, Releasing}
 use Rattle.station.specs.declared.phase.Sound.{Sound}
 use Rattle.station.specs.declared.phase.Sound.the-variants.{Quiet, Symbol}
@@ -24,7 +22,7 @@ use Rattle.station.specs.declared.station.Station.{Station}
 use Rattle.station.specs.declared.station.Turn.{Turn}
 use Rattle.station.specs.Outbox.{oldestOf, dropped}
 use Rattle.station.specs.Station.{ack, nak, due}
-use Rattle.station.specs.Turn.{goes, withOutbox, withAccess}
+use Rattle.station.specs.Turn.{about, goes, withOutbox, withAccess}
 use Rattle.station.specs.Read.{forAll, answered, reads}
 
 -- every way in which an owner leaves the wire: its telegram leaves the outbox, taken or not
@@ -53,19 +51,7 @@ failed s p f = failedOf p s f
 
 -- the station with its oldest telegram on the wire, its first symbol heard
 abbrev pub holdingWire : Station → Telegram → Station
-holdingWire s t =
-    record {
-      address = s .address;
-      master = s .master;
-      admitted = s .admitted;
-      marked = s .marked;
-      since = s .since;
-      phase = Sending 1 MasterPart First;
-      part = t;
-      out = holding (telegramForm t);
-      outbox = s .outbox;
-      replies = s .replies;
-    }
+holdingWire s t = about s (Sending 1 MasterPart First) t (holding (telegramForm t))
 
 -- it heard its own address: it owns the wire, with the telegram it has held longest
 unfoldable pub owned : Station → Turn

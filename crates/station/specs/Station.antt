@@ -1,24 +1,22 @@
 -- A station: fresh, made ready for a slot, and what it says in it. Assumes nothing.
-use mathlib.Core.Bool.{Bool, true, false, cond}
+use mathlib.Core.Bool.{Bool, false, cond}
 use mathlib.Core.List.{[]}
 use Prim.Native.Nat.{ℕ}
 use lib.Dec.{ltb}
 use lib.ListN.{getD}
 use Rattle.wire.specs.Form.{room, holding, answerForm}
 use Rattle.wire.specs.declared.form.Wire.{Wire}
-use Rattle.wire.specs.declared.part.Telegram.{Telegram}
-use Rattle.station.specs.declared.outbox.Outbox.{Outbox}
 use Rattle.station.specs.declared.phase.Part.the-variants.{AnswerPart}
 use Rattle.station.specs.declared.phase.Attempt.the-variants.{First}
 use Rattle.station.specs.declared.phase.Phase.{Phase}
 use Rattle.station.specs.declared.phase.Phase.the-variants.{Silent, Reading, Sending, Awaiting, Judging, Owing, Releasing}
-use Rattle.station.specs.declared.phase.Since.{Since}
 use Rattle.station.specs.declared.phase.Since.the-variants.{Other}
 use Rattle.station.specs.declared.phase.Sound.{Sound}
 use Rattle.station.specs.declared.phase.Sound.the-variants.{Quiet, Symbol}
 use Rattle.station.specs.declared.station.Station.{Station}
 use Rattle.station.specs.Outbox.{noneHeld, heldIn, oldestOf}
 use Rattle.station.specs.Replies.{noEntries, answerFor}
+use Rattle.station.specs.Turn.{about}
 
 -- SYN, and the two acknowledgements
 abbrev pub syn : ℕ
@@ -48,19 +46,7 @@ fresh address master =
 
 -- the station with a part to send, in a phase
 abbrev pub withOut : Station → Phase → Wire → Station
-withOut s p w =
-    record {
-      address = s .address;
-      master = s .master;
-      admitted = s .admitted;
-      marked = s .marked;
-      since = s .since;
-      phase = p;
-      part = s .part;
-      out = w;
-      outbox = s .outbox;
-      replies = s .replies;
-    }
+withOut s p w = about s p (s .part) w
 
 -- a slave takes its answer from its reply book as it stands now, for the PB and SB that it handed out
 unfoldable pub answering : Station → Station
