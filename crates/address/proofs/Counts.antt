@@ -1,22 +1,22 @@
--- How many of the 256 addresses are of each kind.
+-- How many of the 256 addresses are in each role.
 -- Assumes nothing.
 use mathlib.Core.Path.{_≡_, refl}
 use Prim.Native.Nat.{ℕ}
 use Rattle.address.specs.Half.{halfIndex}
 use Rattle.address.specs.Master.{isMaster}
-use Rattle.address.specs.Kind.{kindOf}
-use Rattle.address.specs.declared.Kind.{Kind}
-use Rattle.address.specs.declared.Kind.the-variants.{Master, Slave, Broadcast, Never}
+use Rattle.address.specs.Role.{roleOf}
+use Rattle.address.specs.declared.Role.{Role}
+use Rattle.address.specs.declared.Role.the-variants.{Master, Slave, Broadcast, Never}
 use Rattle.laws.proofs.Computed.{count}
-use Rattle.address.proofs.OneKind.{isKind}
+use Rattle.address.proofs.OneRole.{isRole}
 
--- how many of the 256 addresses are of kind k
-unfoldable pub howMany : Kind → ℕ
-howMany k = count (λ a. isKind (kindOf a) k) 256
+-- how many of the 256 addresses are in the role k
+unfoldable pub howMany : Role → ℕ
+howMany k = count (λ a. isRole (roleOf a) k) 256
 
 -- 25 masters, 228 slaves, one broadcast address and two that are never one
 pub counted : (howMany Master ≡ 25) × (howMany Slave ≡ 228) × (howMany Broadcast ≡ 1) × (howMany Never ≡ 2)
-unfolding howMany count isKind kindOf isMaster halfIndex
+unfolding howMany count isRole roleOf isMaster halfIndex
 counted = (refl, refl, refl, refl)
 
 -- exactly 25 addresses are masters

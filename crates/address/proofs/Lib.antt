@@ -1,6 +1,6 @@
 pub mod Halves
 pub mod Masters
-pub mod OneKind
+pub mod OneRole
 pub mod Counts
 pub mod Which
 pub mod Slaves

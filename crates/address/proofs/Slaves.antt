@@ -7,10 +7,10 @@ use native.Mathlib.Nat.{mod-lt}
 use lib.Dec.{lit<}
 use Rattle.address.specs.Half.{halfIndex}
 use Rattle.address.specs.Master.{isMaster, slaveOf}
-use Rattle.address.specs.Kind.{kindOf}
-use Rattle.address.specs.declared.Kind.the-variants.{Slave}
+use Rattle.address.specs.Role.{roleOf}
+use Rattle.address.specs.declared.Role.the-variants.{Slave}
 use Rattle.laws.proofs.Computed.{alike, same}
-use Rattle.address.proofs.OneKind.{isKind, isKind-exactly-when}
+use Rattle.address.proofs.OneRole.{isRole, isRole-exactly-when}
 use Rattle.address.proofs.Which.{Other, slave-exactly-when}
 
 -- a slave address is a byte
@@ -18,12 +18,12 @@ pub slave-below : (a : ℕ) → slaveOf a < 256
 unfolding slaveOf
 slave-below a = mod-lt _ (lit< tt)
 
--- the slave address of a master is of kind Slave ..
-pub slave-of-a-master : (a : ℕ) → a < 256 → isMaster a ≡ true → kindOf (slaveOf a) ≡ Slave
-unfolding slaveOf isKind kindOf isMaster halfIndex
+-- the slave address of a master is in the role Slave ..
+pub slave-of-a-master : (a : ℕ) → a < 256 → isMaster a ≡ true → roleOf (slaveOf a) ≡ Slave
+unfolding slaveOf isRole roleOf isMaster halfIndex
 slave-of-a-master a h m =
-    let e = alike (λ a. cond (isMaster a) (isKind (kindOf (slaveOf a)) Slave) true) (λ a. true) 256 tt a h in
-    isKind-exactly-when (kindOf (slaveOf a)) Slave .0 (rw m at e)
+    let e = alike (λ a. cond (isMaster a) (isRole (roleOf (slaveOf a)) Slave) true) (λ a. true) 256 tt a h in
+    isRole-exactly-when (roleOf (slaveOf a)) Slave .0 (rw m at e)
 
 -- .. so it is no master address, and not A9, AA or FE
 pub slave-of-a-master-other : (a : ℕ) → a < 256 → isMaster a ≡ true → Other (slaveOf a)

@@ -1,4 +1,4 @@
--- Which addresses are of each kind.
+-- Which addresses are in each role.
 -- Assumes nothing.
 use mathlib.Core.Path.{_≡_, refl, sym, _∙_}
 use mathlib.Core.Bool.{Bool, true, false, _||_, Bool·beq, false≢true}
@@ -8,28 +8,28 @@ use borrow.Author.Tests.{eqb-true, eq-eqb, ne-eqb}
 use lib.Dec.{T, eqb}
 use Rattle.address.specs.Half.{halfIndex}
 use Rattle.address.specs.Master.{isMaster}
-use Rattle.address.specs.Kind.{kindOf}
-use Rattle.address.specs.declared.Kind.{Kind}
-use Rattle.address.specs.declared.Kind.the-variants.{Master, Slave, Broadcast, Never}
+use Rattle.address.specs.Role.{roleOf}
+use Rattle.address.specs.declared.Role.{Role}
+use Rattle.address.specs.declared.Role.the-variants.{Master, Slave, Broadcast, Never}
 use Rattle.laws.proofs.Computed.{all, alike}
-use Rattle.address.proofs.OneKind.{isKind, isKind-exactly-when, two-kinds}
+use Rattle.address.proofs.OneRole.{isRole, isRole-exactly-when, two-roles}
 
--- an address is of kind k exactly when a test passes, where antt computes that it does so at all 256
-exactly-when : (k : Kind) (test : ℕ → Bool) → T (all (λ a. Bool·beq (isKind (kindOf a) k) (test a)) 256)
-    → (a : ℕ) → a < 256 → (kindOf a ≡ k) ↔ (test a ≡ true)
+-- an address is in the role k exactly when a test passes, where antt computes that it does so at all 256
+exactly-when : (k : Role) (test : ℕ → Bool) → T (all (λ a. Bool·beq (isRole (roleOf a) k) (test a)) 256)
+    → (a : ℕ) → a < 256 → (roleOf a ≡ k) ↔ (test a ≡ true)
 exactly-when k test t a h =
-    let i = isKind-exactly-when (kindOf a) k in
-    let e = alike (λ a. isKind (kindOf a) k) test 256 t a h in
+    let i = isRole-exactly-when (roleOf a) k in
+    let e = alike (λ a. isRole (roleOf a) k) test 256 t a h in
     (λ p. sym e ∙ i .1 p, λ p. i .0 (e ∙ p))
 
 -- a master has both halves in the row
-pub master-exactly-when : (a : ℕ) → a < 256 → (kindOf a ≡ Master) ↔ (isMaster a ≡ true)
-unfolding isKind kindOf isMaster halfIndex
+pub master-exactly-when : (a : ℕ) → a < 256 → (roleOf a ≡ Master) ↔ (isMaster a ≡ true)
+unfolding isRole roleOf isMaster halfIndex
 master-exactly-when = exactly-when Master isMaster tt
 
 -- FE alone is broadcast
-pub broadcast-exactly-when : (a : ℕ) → a < 256 → (kindOf a ≡ Broadcast) ↔ (a ≡ 0xFE)
-unfolding isKind kindOf isMaster halfIndex
+pub broadcast-exactly-when : (a : ℕ) → a < 256 → (roleOf a ≡ Broadcast) ↔ (a ≡ 0xFE)
+unfolding isRole roleOf isMaster halfIndex
 broadcast-exactly-when a h =
     Iff·trans (exactly-when Broadcast (λ a. eqb a 0xFE) tt a h) (eqb-true a 0xFE, eq-eqb a 0xFE)
 
@@ -38,8 +38,8 @@ either true b = (λ e. inl e, λ p. refl)
 either false b = (λ e. inr e, λ p. ⊎-elim (λ x. absurd (false≢true x)) (λ e. e) p)
 
 -- A9 and AA alone are never addresses
-pub never-exactly-when : (a : ℕ) → a < 256 → (kindOf a ≡ Never) ↔ ((a ≡ 0xA9) ⊎ (a ≡ 0xAA))
-unfolding isKind kindOf isMaster halfIndex
+pub never-exactly-when : (a : ℕ) → a < 256 → (roleOf a ≡ Never) ↔ ((a ≡ 0xA9) ⊎ (a ≡ 0xAA))
+unfolding isRole roleOf isMaster halfIndex
 never-exactly-when a h =
     Iff·trans (exactly-when Never (λ a. eqb a 0xA9 || eqb a 0xAA) tt a h)
     (Iff·trans (either (eqb a 0xA9) (eqb a 0xAA))
@@ -54,14 +54,14 @@ is-false true n = absurd (n refl)
 is-false false n = refl
 
 -- the others are slaves
-pub slave-exactly-when : (a : ℕ) → a < 256 → (kindOf a ≡ Slave) ↔ Other a
-unfolding isKind kindOf
+pub slave-exactly-when : (a : ℕ) → a < 256 → (roleOf a ≡ Slave) ↔ Other a
+unfolding isRole roleOf
 slave-exactly-when a h = (
   λ k. (
-    is-false (isMaster a) (λ m. two-kinds Master Slave refl (sym (master-exactly-when a h .1 m) ∙ k)),
-    λ e. two-kinds Never Slave refl (sym (never-exactly-when a h .1 (inl e)) ∙ k),
-    λ e. two-kinds Never Slave refl (sym (never-exactly-when a h .1 (inr e)) ∙ k),
-    λ e. two-kinds Broadcast Slave refl (sym (broadcast-exactly-when a h .1 e) ∙ k),
+    is-false (isMaster a) (λ m. two-roles Master Slave refl (sym (master-exactly-when a h .1 m) ∙ k)),
+    λ e. two-roles Never Slave refl (sym (never-exactly-when a h .1 (inl e)) ∙ k),
+    λ e. two-roles Never Slave refl (sym (never-exactly-when a h .1 (inr e)) ∙ k),
+    λ e. two-roles Broadcast Slave refl (sym (broadcast-exactly-when a h .1 e) ∙ k),
   ),
   λ o. simp (o .0, ne-eqb a 0xA9 (o .1), ne-eqb a 0xAA (o .2), ne-eqb a 0xFE (o .3)),
 )

@@ -1,3 +1,3 @@
 pub mod Half
 pub mod Master
-pub mod Kind
+pub mod Role

@@ -1,8 +1,8 @@
-// Addresses of the bus: class, sub-address and rank of a master, its slave address, and the kind of each address (01, "Addresses").
+// Addresses of the bus: class, sub-address and rank of a master, its slave address, and the role of each address (01, "Addresses").
 ghost use mathlib.Core.Path.{_≡_};
 ghost use Rattle.address.specs.Half.{halfIndex, classOf, subOf};
 ghost use Rattle.address.specs.Master.{rankOf, isMaster, slaveOf};
-ghost use Rattle.address.specs.Kind.{kindOf};
+ghost use Rattle.address.specs.Role.{roleOf};
 
 // The place of a half in the row 0, 1, 3, 7, F.
 pub enum Index {
@@ -17,7 +17,7 @@ pub enum Rank {
 }
 
 // What an address is used for; Never: AA and A9, which mean something else on the wire.
-pub enum Kind {
+pub enum Role {
     Master,
     Slave,
     Broadcast,
@@ -83,15 +83,15 @@ pub fn slave_of(master: u8) -> u8
 }
 
 // What is neither a master nor one of the three exceptions is a slave.
-pub fn kind_of(address: u8) -> Kind
-    ensures { λ r. ⌜ r ≡ kindOf address ⌝ }
+pub fn role_of(address: u8) -> Role
+    ensures { λ r. ⌜ r ≡ roleOf address ⌝ }
 {
     if is_master(address) {
-        return Kind::Master;
+        return Role::Master;
     }
     match address {
-        0xFE => Kind::Broadcast,
-        0xAA | 0xA9 => Kind::Never,
-        _ => Kind::Slave,
+        0xFE => Role::Broadcast,
+        0xAA | 0xA9 => Role::Never,
+        _ => Role::Slave,
     }
 }

@@ -13,7 +13,7 @@ use Rattle.station.specs.declared.phase.Told.{Told}
 use Rattle.station.specs.declared.phase.Told.the-variants.{Silence, Owns, Taken, Failed, Free, FailedFree, Given, Answered}
 use Rattle.station.specs.declared.station.Turn.{Turn}
 use Rattle.bus.specs.declared.bus.Bus.{Bus}
-use Rattle.bus.specs.declared.find.Query.the-variants.{Addressee}
+use Rattle.bus.specs.declared.find.Query.the-variants.{WasTold}
 use Rattle.bus.specs.Bus.{attachedTurns}
 use Rattle.bus.specs.Events.{those, linesOf, events}
 use Rattle.bus.specs.Find.{meets, firstOf, thereIs}
@@ -60,12 +60,12 @@ untold t p q = go (t .told) p q
 
 -- ---- all of them
 
-no-lines : (last : Bool) {l : List Turn} → Every (λ t. meets Addressee t ≡ false) l → linesOf last l ≡ []
+no-lines : (last : Bool) {l : List Turn} → Every (λ t. meets WasTold t ≡ false) l → linesOf last l ≡ []
 no-lines last none = refl
 no-lines true (next {a = t} q qs) = rw (silent t q) (no-lines true qs)
 no-lines false (next {a = t} q qs) = rw (silent t q) (no-lines false qs)
 
-nobody-told : (l : List Turn) → linesOf false l ≡ [] → linesOf true l ≡ [] → Every (λ t. meets Addressee t ≡ false) l
+nobody-told : (l : List Turn) → linesOf false l ≡ [] → linesOf true l ≡ [] → Every (λ t. meets WasTold t ≡ false) l
 nobody-told [] p q = none
 nobody-told (t ∷ l) p q =
     let e = nil-parts (those false (tells t)) (linesOf false l) p in
@@ -77,13 +77,13 @@ missing (At i) e = absurd (true≢false e)
 missing Missing e = refl
 
 -- nobody was told anything exactly when there are no events
-pub told-exactly-when : (b : Bus) → (thereIs b Addressee ≡ false) ↔ (events b ≡ [])
+pub told-exactly-when : (b : Bus) → (thereIs b WasTold ≡ false) ↔ (events b ≡ [])
 unfolding thereIs firstOf events
 told-exactly-when b = (
   λ e.
-      let u = missing-each (meets Addressee) 0 (attachedTurns b) (missing _ e) in
+      let u = missing-each (meets WasTold) 0 (attachedTurns b) (missing _ e) in
       rw (no-lines false u, no-lines true u),
   λ e.
       let p = nil-parts (linesOf false (attachedTurns b)) (linesOf true (attachedTurns b)) e in
-      ap isFound (each-missing (meets Addressee) 0 (nobody-told (attachedTurns b) (p .0) (p .1))),
+      ap isFound (each-missing (meets WasTold) 0 (nobody-told (attachedTurns b) (p .0) (p .1))),
 )

@@ -10,21 +10,22 @@ use Rattle.laws.specs.First.{firstFrom}
 use Rattle.laws.specs.declared.Found.{Found}
 use Rattle.laws.specs.declared.Found.the-variants.{At, Missing}
 use Rattle.address.specs.Half.{halfIndex}
-use Rattle.address.specs.Kind as addresses
+use Rattle.address.specs.Role as addresses
 use Rattle.address.specs.Master.{isMaster, slaveOf}
 use Rattle.wire.proofs.Fitting.{load-sixteen}
 use Rattle.wire.proofs.Symbols.{telegram-fits}
 use Rattle.wire.specs.Examples as wire
 use Rattle.wire.specs.Form.{room, telegramForm}
 use Rattle.wire.specs.Load.{fitting, loadOf}
-use Rattle.wire.specs.Reader.{masterStart, ended, more, onward, readQq, readOther, readOne}
+use Rattle.wire.specs.Reader.{masterStart, ended, more, onward, readQq, readHead, readPlace, readOne}
 use Rattle.wire.specs.Symbol.{kindOf}
 use Rattle.wire.specs.declared.part.Telegram.{Telegram}
-use Rattle.station.specs.Hear.{admits, restarted, hearSyn, hearQuiet, noted, hearReading, hearSymbol, hears}
+use Rattle.station.specs.Admission.{admits, restarted, noted, owned, withdrawn, bids, sayBid}
+use Rattle.station.specs.Hear.{cut, hearSyn, hearQuiet, hearSymbol, hears}
+use Rattle.station.specs.Table.{hearReading, readOn, reads, hearBid}
 use Rattle.station.specs.Outbox.{noneHeld, heldIn, accepted, oldestOf}
-use Rattle.station.specs.Read.{isOwn, unread, readOn, reads}
-use Rattle.station.specs.Send.{owned, withdrawn, hearBid}
-use Rattle.station.specs.Station.{fresh, ready, bids, sayBid, says}
+use Rattle.station.specs.Addressed.{isOwn}
+use Rattle.station.specs.Station.{fresh, ready, says}
 use Rattle.station.specs.Turn.{goes}
 use Rattle.bus.specs.declared.bus.Bus.{Bus}
 use Rattle.bus.specs.declared.bus.Answer.{Answer}
@@ -32,7 +33,7 @@ use Rattle.bus.specs.declared.find.Query.the-variants.{Master}
 use Rattle.bus.specs.declared.refusal.Refusal.the-variants.{NoMaster, NoTarget, NoCommand, TooMuchData}
 use Rattle.bus.specs.Attach.{noSuchAddress, occupied, newcomer, takesSeat, attaches}
 use Rattle.bus.specs.Bus.{poweredOn, attachedTo, turnAt, withTurn, refusedBy, done}
-use Rattle.bus.specs.Examples.{Bid, Contest, attached, queued, bidsFrom, counted, bidsGiven, symbols, slotsAfter, given, written, contests, examples}
+use Rattle.bus.specs.Examples.{Bid, Contest, attached, queued, bidsFrom, bidsGiven, symbols, slotsAfter, given, written, contests, examples}
 use Rattle.bus.specs.Find.{isMasterAt, firstOf, thereIs}
 use Rattle.bus.specs.Queue.{unusable, noTarget, noCommand, holds, queuesTelegram, queuesFrom, queuesAt, queues}
 use Rattle.bus.specs.Slot.{generatorSays, spoken, slotHeard, slotRun}
@@ -73,17 +74,17 @@ queued-short (m ∷ ms) b =
 -- ---- P8 to P12
 
 abbrev shortly : Contest → List Bid
-shortly c = bidsFrom (counted (c .bids)) (short (c .masters) (attached (c .masters) poweredOn))
+shortly c = bidsFrom (length (c .bids)) (short (c .masters) (attached (c .masters) poweredOn))
 
 given-shortly : (c : Contest) → bidsGiven c ≡ shortly c
-given-shortly c = ap (bidsFrom (counted (c .bids))) (queued-short (c .masters) (attached (c .masters) poweredOn))
+given-shortly c = ap (bidsFrom (length (c .bids))) (queued-short (c .masters) (attached (c .masters) poweredOn))
 
 each-shortly : (cs : List Contest) → map bidsGiven cs ≡ map shortly cs
 each-shortly [] = refl
 each-shortly (c ∷ cs) = ap₂ {C = List (List Bid)} _∷_ (given-shortly c) (each-shortly cs)
 
 computed : map shortly contests ≡ map (λ (c : Contest). c .bids) contests
-unfolding contests poweredOn attachedTo turnAt withTurn refusedBy done noSuchAddress occupied newcomer takesSeat attaches isMasterAt firstOf thereIs firstFrom unusable noTarget noCommand holds generatorSays spoken slotHeard slotRun addresses.kindOf isMaster halfIndex slaveOf isOwn fresh ready bids sayBid says noneHeld heldIn accepted oldestOf admits restarted hearSyn hearQuiet noted hearReading hearSymbol hears unread readOn reads owned withdrawn hearBid goes masterStart ended more onward readQq readOther readOne kindOf fitting loadOf
+unfolding contests poweredOn attachedTo turnAt withTurn refusedBy done noSuchAddress occupied newcomer takesSeat attaches isMasterAt firstOf thereIs firstFrom unusable noTarget noCommand holds generatorSays spoken slotHeard slotRun addresses.roleOf isMaster halfIndex slaveOf isOwn fresh ready bids sayBid says noneHeld heldIn accepted oldestOf admits restarted cut hearSyn hearQuiet noted hearReading hearSymbol hears readOn reads owned withdrawn hearBid goes masterStart ended more onward readQq readHead readPlace readOne kindOf fitting loadOf
 computed = refl
 
 -- ---- P1 to P12

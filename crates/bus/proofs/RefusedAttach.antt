@@ -7,13 +7,13 @@ use Prim.Native.Nat.{ℕ}
 use native.Mathlib.Omega.{arith}
 use borrow.Author.Tests.{ltb-true}
 use lib.Dec.{eqb, ltb}
-use Rattle.address.specs.Kind.{kindOf}
+use Rattle.address.specs.Role.{roleOf}
 use Rattle.address.specs.Master.{isMaster, slaveOf}
-use Rattle.address.specs.declared.Kind.the-variants.{Master, Slave, Broadcast, Never}
-use Rattle.station.specs.Read.{isOwn}
+use Rattle.address.specs.declared.Role.the-variants.{Master, Slave, Broadcast, Never}
+use Rattle.station.specs.Addressed.{isOwn}
 use Rattle.station.specs.declared.station.Turn.{Turn}
 use Rattle.bus.specs.declared.bus.Bus.{Bus}
-use Rattle.bus.specs.declared.find.Query.the-variants.{Owner}
+use Rattle.bus.specs.declared.find.Query.the-variants.{Holder}
 use Rattle.bus.specs.Attach.{wrongFor, noSuchAddress, occupied, takesSeat, attaches}
 use Rattle.bus.specs.Bus.{seats, attachedTo, attachedTurns, refusedBy, done}
 use Rattle.bus.specs.Conditions.{numberGiven, Unless, HasRun, WrongAddress, AnswersTo, Used, AddressUsed, AllSeatsTaken}
@@ -22,7 +22,7 @@ use Rattle.bus.proofs.Reflects.{Reflects, equal, equal-turned, or-refle
 
 -- ---- the tests
 
--- 8, by the address's kind: master, FE, AA or A9, or a slave
+-- 8, by what the address is used for: master, FE, AA or A9, or a slave
 wrong-master : (m f n : Bool) → Reflects (wrongFor (cond m Master (cond f Broadcast (cond n Never Slave))) true) (m ≡ false)
 wrong-master true f n = (λ e. absurd (false≢true e), λ e. absurd (true≢false e))
 wrong-master false true n = (λ e. refl, λ e. refl)
@@ -38,7 +38,7 @@ wrong-slave false false false true = refl
 wrong-slave false false false false = refl
 
 wrong-reflects : (a : ℕ) (master : Bool) → Reflects (noSuchAddress a master) (WrongAddress a master)
-unfolding noSuchAddress kindOf
+unfolding noSuchAddress roleOf
 wrong-reflects a true = wrong-master (isMaster a) (eqb a 0xFE) (eqb a 0xAA || eqb a 0xA9)
 wrong-reflects a false =
     let r = or-reflects (isMaster a) _ (itself (isMaster a))
@@ -58,20 +58,20 @@ wrong-reflects a false =
     tests (inr (inr (inl f))) = inr (inl f)
     tests (inr (inr (inr m))) = inl m
 
-own-reflects : (a : ℕ) (t : Turn) → Reflects (meets (Owner a) t) (AnswersTo a t)
+own-reflects : (a : ℕ) (t : Turn) → Reflects (meets (Holder a) t) (AnswersTo a t)
 unfolding isOwn
 own-reflects a t =
     or-reflects _ _ (equal-turned a (t .station .address))
     (and-reflects (t .station .master) _ (itself (t .station .master)) (equal-turned a (slaveOf (t .station .address))))
 
-used-reflects : (b : Bus) (a : ℕ) → Reflects (thereIs b (Owner a)) (Used b a)
+used-reflects : (b : Bus) (a : ℕ) → Reflects (thereIs b (Holder a)) (Used b a)
 unfolding thereIs firstOf
-used-reflects b a = search-reflects (AnswersTo a) (meets (Owner a)) (own-reflects a) 0 (attachedTurns b)
+used-reflects b a = search-reflects (AnswersTo a) (meets (Holder a)) (own-reflects a) 0 (attachedTurns b)
 
 occupied-reflects : (b : Bus) (a : ℕ) (master : Bool) → Reflects (occupied b a master) (AddressUsed b a master)
 unfolding occupied
 occupied-reflects b a true = or-reflects _ _ (used-reflects b a) (used-reflects b (slaveOf a))
-occupied-reflects b a false = either (thereIs b (Owner a)) (used-reflects b a)
+occupied-reflects b a false = either (thereIs b (Holder a)) (used-reflects b a)
   where
     either : (t : Bool) → Reflects t (Used b a) → Reflects (cond t true false) (Used b a)
     either true r = r

@@ -14,16 +14,16 @@ use Rattle.laws.specs.First.{isFound}
 use Rattle.laws.specs.declared.Found.{Found}
 use Rattle.laws.specs.declared.Found.the-variants.{At, Missing}
 use Rattle.address.specs.Half.{halfIndex}
-use Rattle.address.specs.Kind.{kindOf}
+use Rattle.address.specs.Role.{roleOf}
 use Rattle.address.specs.Master.{isMaster, slaveOf}
-use Rattle.address.specs.declared.Kind.the-variants as kind
+use Rattle.address.specs.declared.Role.the-variants as role
 use Rattle.wire.proofs.Fitting.{load-sixteen}
 use Rattle.wire.proofs.Symbols.{telegram-fits}
 use Rattle.wire.specs.Form.{room, telegramForm}
 use Rattle.wire.specs.Load.{loadOf}
 use Rattle.wire.specs.declared.part.Telegram.{Telegram}
 use Rattle.station.specs.Outbox.{queueDepth, heldIn, accepted}
-use Rattle.station.specs.Read.{isOwn}
+use Rattle.station.specs.Addressed.{isOwn}
 use Rattle.station.specs.declared.outbox.Outbox.{Outbox}
 use Rattle.station.specs.declared.station.Turn.{Turn}
 use Rattle.bus.specs.declared.bus.Bus.{Bus}
@@ -38,7 +38,7 @@ use Rattle.bus.proofs.Reflects.{Reflects, refuses, equal, below, or-ref
 
 -- ---- the tests
 
-never-is : (m f n o : Bool) → isNever (cond m kind.Master (cond f kind.Broadcast (cond (n || o) kind.Never kind.Slave))) ≡ true
+never-is : (m f n o : Bool) → isNever (cond m role.Master (cond f role.Broadcast (cond (n || o) role.Never role.Slave))) ≡ true
     → (o ≡ true) ⊎ (n ≡ true)
 never-is true f n o e = absurd (false≢true e)
 never-is false true n o e = absurd (false≢true e)
@@ -47,15 +47,15 @@ never-is false false false true e = inl refl
 never-is false false false false e = absurd (false≢true e)
 
 unusable-A9 : unusable 0xA9 ≡ true
-unfolding unusable kindOf isMaster halfIndex
+unfolding unusable roleOf isMaster halfIndex
 unusable-A9 = refl
 
 unusable-AA : unusable 0xAA ≡ true
-unfolding unusable kindOf isMaster halfIndex
+unfolding unusable roleOf isMaster halfIndex
 unusable-AA = refl
 
 unusable-reflects : (a : ℕ) → Reflects (unusable a) (Forbidden a)
-unfolding unusable kindOf
+unfolding unusable roleOf
 unusable-reflects a = (
   λ e. ⊎-elim (λ x. inl (eqb-true a 0xA9 x)) (λ y. inr (eqb-true a 0xAA y))
       (never-is (isMaster a) (eqb a 0xFE) (eqb a 0xAA) (eqb a 0xA9) e),

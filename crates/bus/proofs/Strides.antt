@@ -6,7 +6,7 @@ use native.Mathlib.Omega.{arith}
 use borrow.Author.Tests.{ltb-true, lt-ltb}
 use lib.Dec.{ltb}
 use Rattle.bus.specs.declared.bus.Bus.{Bus}
-use Rattle.bus.specs.declared.find.Query.the-variants.{Addressee}
+use Rattle.bus.specs.declared.find.Query.the-variants.{WasTold}
 use Rattle.bus.specs.declared.run.Stop.{Stop}
 use Rattle.bus.specs.Find.{thereIs}
 use Rattle.bus.specs.Run.{runs, atRest, later, oneSlot, stride}
@@ -18,11 +18,11 @@ abbrev goesOn : Bool → Stop → Stop
 goesOn told s = cond told s (runs (s .left) (s .bus))
 
 -- one slot
-one : (b : Bus) (n : ℕ) → runs (suc n) b ≡ goesOn (thereIs (slotRun b) Addressee) (record { bus = slotRun b; left = n })
+one : (b : Bus) (n : ℕ) → runs (suc n) b ≡ goesOn (thereIs (slotRun b) WasTold) (record { bus = slotRun b; left = n })
 unfolding runs
 one b n = refl
 
-one-slot : (b : Bus) (left : ℕ) → 0 < left → runs left b ≡ goesOn (thereIs (oneSlot b left .bus) Addressee) (oneSlot b left)
+one-slot : (b : Bus) (left : ℕ) → 0 < left → runs left b ≡ goesOn (thereIs (oneSlot b left .bus) WasTold) (oneSlot b left)
 one-slot b zero h = absurd (omega arith)
 one-slot b (suc n) h =
     let e : suc n - 1 ≡ n = omega arith in
@@ -30,7 +30,7 @@ one-slot b (suc n) h =
 
 -- whole tens
 tens-on : (b : Bus) (left : ℕ) → atRest b ≡ true → 9 < left
-    → runs left b ≡ goesOn (thereIs (later b (left - left % 10)) Addressee) (record { bus = later b (left - left % 10); left = left % 10 })
+    → runs left b ≡ goesOn (thereIs (later b (left - left % 10)) WasTold) (record { bus = later b (left - left % 10); left = left % 10 })
 unfolding later
 tens-on b left e h = rw (rest-tells-nobody b (left - left % 10) e) (tens left b e h)
 
@@ -40,10 +40,10 @@ either P true x y p q = p refl
 either P false x y p q = q refl
 
 stride-on : (b : Bus) (left : ℕ) → 0 < left
-    → runs left b ≡ goesOn (thereIs (stride b left .bus) Addressee) (stride b left)
+    → runs left b ≡ goesOn (thereIs (stride b left .bus) WasTold) (stride b left)
 unfolding stride
 stride-on b left h =
-    let P : Stop → Type 0 = λ s. runs left b ≡ goesOn (thereIs (s .bus) Addressee) s in
+    let P : Stop → Type 0 = λ s. runs left b ≡ goesOn (thereIs (s .bus) WasTold) s in
     let slot = one-slot b left h in
     rw (lt-ltb 0 left h)
     (either P (ltb 9 left) _ (oneSlot b left)
@@ -63,13 +63,13 @@ stride-less b left h =
 -- ---- the loop of `run`, where a stride came to s
 
 -- somebody was told something: the run stops there
-pub stops : (b : Bus) (left : ℕ) (s : Stop) → 0 < left → s ≡ stride b left → thereIs (s .bus) Addressee ≡ true → runs left b ≡ s
-stops b left s h e t = stride-on b left h ∙ ap (λ (x : Stop). goesOn (thereIs (x .bus) Addressee) x) (sym e) ∙ rw t
+pub stops : (b : Bus) (left : ℕ) (s : Stop) → 0 < left → s ≡ stride b left → thereIs (s .bus) WasTold ≡ true → runs left b ≡ s
+stops b left s h e t = stride-on b left h ∙ ap (λ (x : Stop). goesOn (thereIs (x .bus) WasTold) x) (sym e) ∙ rw t
 
 -- nobody was: it goes on from there
-pub continues : (b : Bus) (left : ℕ) (s : Stop) → 0 < left → s ≡ stride b left → thereIs (s .bus) Addressee ≡ false
+pub continues : (b : Bus) (left : ℕ) (s : Stop) → 0 < left → s ≡ stride b left → thereIs (s .bus) WasTold ≡ false
     → runs left b ≡ runs (s .left) (s .bus)
-continues b left s h e t = stride-on b left h ∙ ap (λ (x : Stop). goesOn (thereIs (x .bus) Addressee) x) (sym e) ∙ rw t
+continues b left s h e t = stride-on b left h ∙ ap (λ (x : Stop). goesOn (thereIs (x .bus) WasTold) x) (sym e) ∙ rw t
 
 -- less is left
 pub less-left : (b : Bus) (left : ℕ) (s : Stop) → 0 < left → s ≡ stride b left → s .left < left

@@ -17,18 +17,19 @@ use Rattle.wire.specs.Symbol.{kindOf}
 use Rattle.wire.specs.declared.reader.Cursor.{Cursor}
 use Rattle.wire.specs.declared.reader.Place.{Place}
 use Rattle.wire.specs.declared.reader.Place.the-variants.{Qq, Zz, Pb, Sb, Nn, Data, Crc}
-use Rattle.station.specs.Hear.{hears, hearQuiet, hearSyn, restarted, admits}
+use Rattle.station.specs.Admission.{restarted, admits, bids, sayBid}
+use Rattle.station.specs.Hear.{hears, hearQuiet, cut, hearSyn}
 use Rattle.station.specs.Outbox.{heldIn}
-use Rattle.station.specs.Station.{syn, ready, bids, sayBid, says}
+use Rattle.station.specs.Station.{syn, ready, says}
 use Rattle.station.specs.Turn.{goes}
-use Rattle.station.specs.declared.phase.Part.{Part}
-use Rattle.station.specs.declared.phase.Part.the-variants.{MasterPart, AnswerPart}
+use Rattle.wire.specs.declared.part.Part.{Part}
+use Rattle.wire.specs.declared.part.Part.the-variants.{MasterPart, AnswerPart}
 use Rattle.station.specs.declared.phase.Attempt.{Attempt}
 use Rattle.station.specs.declared.phase.Attempt.the-variants.{First, Again}
 use Rattle.station.specs.declared.phase.Phase.{Phase}
 use Rattle.station.specs.declared.phase.Phase.the-variants.{Silent, Reading, Sending, Awaiting, Judging, Owing, Releasing}
 use Rattle.station.specs.declared.phase.Since.{Since}
-use Rattle.station.specs.declared.phase.Since.the-variants.{Nothing, OneSymbol, Other}
+use Rattle.station.specs.declared.phase.Since.the-variants.{Nothing, OneSymbol, ManyOrNoSyn}
 use Rattle.station.specs.declared.phase.Sound.{Sound}
 use Rattle.station.specs.declared.phase.Sound.the-variants.{Quiet, Symbol}
 use Rattle.station.specs.declared.phase.Told.{Told}
@@ -36,7 +37,7 @@ use Rattle.station.specs.declared.phase.Told.the-variants.{Silence, Owns, Taken
 use Rattle.station.specs.declared.station.Station.{Station}
 use Rattle.station.specs.declared.station.Turn.{Turn}
 use Rattle.bus.specs.declared.bus.Bus.{Bus}
-use Rattle.bus.specs.declared.find.Query.the-variants.{Addressee, Restless}
+use Rattle.bus.specs.declared.find.Query.the-variants.{WasTold, Restless}
 use Rattle.bus.specs.Bus.{attachedTo, attachedTurns}
 use Rattle.bus.specs.Find.{meets, firstOf, thereIs}
 use Rattle.bus.specs.Rest.{isTold, isQq, atStart, firstMaster, fromStart, idleSince, idle, rests}
@@ -112,7 +113,7 @@ starts Nothing s e =
     let held = and-second (eqb (heldIn (s .outbox)) 0) (fromStart (s .phase)) e in
     record { since = refl; holds = eqb-true (heldIn (s .outbox)) 0 (held .0); phase = start-phase (s .phase) (held .1) }
 starts OneSymbol s e = absurd (false≢true e)
-starts Other s e = absurd (false≢true e)
+starts ManyOrNoSyn s e = absurd (false≢true e)
 
 -- the station after an AA, admitted or not, told nothing
 abbrev afterSyn : Station → Bool → Turn
@@ -181,7 +182,7 @@ unfolding ready hears hearQuiet goes
 hears-quiet s a = refl
 
 hears-syn : (s : Station) (a : Bool) → turned (Symbol syn) (afterSyn s a) ≡ afterSyn s (cond (s .master) true false)
-unfolding ready hears kindOf hearSyn restarted admits
+unfolding ready hears kindOf cut goes hearSyn restarted admits
 hears-syn s a = refl
 
 rest-says : (t : Turn) → Resting t → saidBy t ≡ Quiet
@@ -201,11 +202,11 @@ woken-quiet : (t : Turn) → Resting t → turned Quiet (turned (Symbol syn) t) 
 woken-quiet t r =
     ap (turned Quiet) (rest-woken t r) ∙ hears-quiet (t .station) (cond (t .station .master) true false) ∙ sym (r .same)
 
-rest-untold : (t : Turn) → Resting t → meets Addressee t ≡ false
-rest-untold t r = ap (meets Addressee) (r .same)
+rest-untold : (t : Turn) → Resting t → meets WasTold t ≡ false
+rest-untold t r = ap (meets WasTold) (r .same)
 
-woken-untold : (t : Turn) → Resting t → meets Addressee (turned (Symbol syn) t) ≡ false
-woken-untold t r = ap (meets Addressee) (rest-woken t r)
+woken-untold : (t : Turn) → Resting t → meets WasTold (turned (Symbol syn) t) ≡ false
+woken-untold t r = ap (meets WasTold) (rest-woken t r)
 
 -- ---- the attached stations, each at rest
 
@@ -254,7 +255,7 @@ ranAfter zero r = r
 ranAfter (suc k) r = ranAfter k true
 
 -- one more slot that tells nobody anything
-run-on : (n : ℕ) (b c : Bus) → slotRun b ≡ c → thereIs c Addressee ≡ false → runs (suc n) b ≡ runs n c
+run-on : (n : ℕ) (b c : Bus) → slotRun b ≡ c → thereIs c WasTold ≡ false → runs (suc n) b ≡ runs n c
 unfolding runs
 run-on n b c e h = rw (e, h)
 
@@ -266,10 +267,10 @@ module _ (l : List Turn) (count : ℕ) where
   abbrev seated : ℕ
   seated = attachedTo (with 0 false 0 l)
 
-  untold : (s : ℕ) (r : Bool) (q : ℕ) (k : List Turn) → Every (λ t. meets Addressee t ≡ false) (take seated k)
-      → thereIs (with s r q k) Addressee ≡ false
+  untold : (s : ℕ) (r : Bool) (q : ℕ) (k : List Turn) → Every (λ t. meets WasTold t ≡ false) (take seated k)
+      → thereIs (with s r q k) WasTold ≡ false
   unfolding thereIs firstOf attachedTo
-  untold s r q k u = ap isFound (each-missing (meets Addressee) 0 u)
+  untold s r q k u = ap isFound (each-missing (meets WasTold) 0 u)
 
   hushed : (s : ℕ) (r : Bool) (q : ℕ) (k : List Turn) → Every (λ t. saidBy t ≡ Quiet) (take seated k)
       → spoken (with s r q k) ≡ generatorSays q
@@ -306,13 +307,13 @@ module _ (l : List Turn) (count : ℕ) where
           stays Resting (λ t. turned Quiet (turned (Symbol syn) t)) woken-quiet seated l rest,
         )
 
-    rest-tells : (s : ℕ) (r : Bool) (q : ℕ) → thereIs (with s r q l) Addressee ≡ false
+    rest-tells : (s : ℕ) (r : Bool) (q : ℕ) → thereIs (with s r q l) WasTold ≡ false
     rest-tells s r q = untold s r q l (every-map rest-untold rest)
 
-    woken-tells : (s : ℕ) (r : Bool) (q : ℕ) → thereIs (with s r q (wake seated l)) Addressee ≡ false
+    woken-tells : (s : ℕ) (r : Bool) (q : ℕ) → thereIs (with s r q (wake seated l)) WasTold ≡ false
     woken-tells s r q =
         untold s r q (wake seated l)
-        (every-stepped Resting (λ t. meets Addressee t ≡ false) (turned (Symbol syn)) woken-untold seated l rest)
+        (every-stepped Resting (λ t. meets WasTold t ≡ false) (turned (Symbol syn)) woken-untold seated l rest)
 
     -- k quiet slots
     quiet-run : (k n s : ℕ) (r : Bool) (q : ℕ) → q + k ≤ patience
@@ -440,6 +441,6 @@ tens left b e h = go (left / 10) (div-add-mod left 10)
         ∙ ap (λ (m : ℕ). runs (left % 10) (slotsLater b m)) f
 
 -- nobody is told anything by a bus at rest
-pub rest-tells-nobody : (b : Bus) (m : ℕ) → atRest b ≡ true → thereIs (slotsLater b m) Addressee ≡ false
+pub rest-tells-nobody : (b : Bus) (m : ℕ) → atRest b ≡ true → thereIs (slotsLater b m) WasTold ≡ false
 unfolding attachedTo
 rest-tells-nobody b m e = rest-tells (b .turns) (b .count) (at-rest-means b e .stations) _ _ _

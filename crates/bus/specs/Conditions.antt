@@ -8,7 +8,7 @@ use Prim.Native.Nat.{ℕ, _≤_, _<_}
 use lib.ListN.{length, take}
 use Rattle.address.specs.Master.{isMaster, slaveOf}
 use Rattle.wire.specs.Form.{room, telegramForm}
-use Rattle.wire.specs.Load.{loadOf}
+use Rattle.wire.specs.Load.{mostData, loadOf}
 use Rattle.station.specs.Outbox.{queueDepth, heldIn}
 use Rattle.station.specs.Replies.{replyEntries, countIn}
 use Rattle.station.specs.declared.replies.Reply.{Reply}
@@ -93,7 +93,7 @@ WrongCommand pb sb = Forbidden pb ⊎ Forbidden sb
 
 -- 4: more than 16 data bytes
 abbrev pub MuchData : List ℕ → Type 0
-MuchData bytes = 16 < length bytes
+MuchData bytes = mostData < length bytes
 
 -- 6: the expanded part exceeds 44 symbols
 abbrev pub LongPart : ℕ → ℕ → ℕ → ℕ → List ℕ → Type 0

@@ -2,6 +2,7 @@
 use mathlib.Core.Bool.{true, cond}
 use mathlib.Core.List.{List, [], _∷_, _++_, map}
 use Prim.Native.Nat.{ℕ, zero, suc}
+use lib.ListN.{length}
 use Rattle.wire.specs.Examples as wire
 use Rattle.station.specs.Phase.{owner}
 use Rattle.station.specs.declared.phase.Sound.{Sound}
@@ -57,13 +58,9 @@ bidsFrom (suc n) b =
     let next = slotRun syn in
     record { word = spoken syn; owners = ownersOf (attachedTurns next) } ∷ bidsFrom n next
 
-abbrev pub counted : List Bid → ℕ
-counted [] = 0
-counted (b ∷ bs) = suc (counted bs)
-
 -- the bids that the definitions give, from power-on
 abbrev pub bidsGiven : Contest → List Bid
-bidsGiven c = bidsFrom (counted (c .bids)) (queued (c .masters) (attached (c .masters) poweredOn))
+bidsGiven c = bidsFrom (length (c .bids)) (queued (c .masters) (attached (c .masters) poweredOn))
 
 -- nobody owns the wire, or one master does
 abbrev pub lost : ℕ → Bid

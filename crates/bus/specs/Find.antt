@@ -1,16 +1,16 @@
 -- The first attached station of which something holds. Assumes nothing.
-use mathlib.Core.Bool.{Bool, true, false, cond, not}
+use mathlib.Core.Bool.{Bool, true, false, cond}
 use Prim.Native.Nat.{ℕ}
 use lib.Dec.{eqb}
 use Rattle.laws.specs.First.{firstFrom, isFound}
 use Rattle.laws.specs.declared.Found.{Found}
 use Rattle.address.specs.Master.{slaveOf}
-use Rattle.station.specs.Read.{isOwn}
+use Rattle.station.specs.Addressed.{isOwn}
 use Rattle.station.specs.declared.station.Station.{Station}
 use Rattle.station.specs.declared.station.Turn.{Turn}
 use Rattle.bus.specs.declared.bus.Bus.{Bus}
 use Rattle.bus.specs.declared.find.Query.{Query}
-use Rattle.bus.specs.declared.find.Query.the-variants.{Master, Slave, Owner, Addressee, Restless}
+use Rattle.bus.specs.declared.find.Query.the-variants.{Master, Slave, Holder, WasTold, Restless}
 use Rattle.bus.specs.Bus.{attachedTurns}
 use Rattle.bus.specs.Rest.{isTold, rests}
 
@@ -25,8 +25,8 @@ isMasterAt s a = cond (s .master) (eqb (s .address) a) false
 abbrev pub meets : Query → Turn → Bool
 meets (Master a) t = isMasterAt (t .station) a
 meets (Slave a) t = eqb (slaveAddress (t .station)) a
-meets (Owner a) t = isOwn (t .station) a
-meets Addressee t = isTold (t .told)
+meets (Holder a) t = isOwn (t .station) a
+meets WasTold t = isTold (t .told)
 meets Restless t = cond (rests t) false true
 
 unfoldable pub firstOf : Bus → Query → Found

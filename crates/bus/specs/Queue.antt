@@ -6,14 +6,14 @@ use lib.Dec.{ltb}
 use lib.ListN.{length}
 use Rattle.laws.specs.declared.Found.{Found}
 use Rattle.laws.specs.declared.Found.the-variants.{At, Missing}
-use Rattle.address.specs.Kind.{kindOf}
-use Rattle.address.specs.declared.Kind as K
-use Rattle.address.specs.declared.Kind.the-variants as kind
+use Rattle.address.specs.Role.{roleOf}
+use Rattle.address.specs.declared.Role as R
+use Rattle.address.specs.declared.Role.the-variants as role
 use Rattle.wire.specs.Form.{room, telegramForm}
-use Rattle.wire.specs.Load.{loadOf}
+use Rattle.wire.specs.Load.{mostData, loadOf}
 use Rattle.wire.specs.declared.part.Telegram.{Telegram}
 use Rattle.station.specs.Outbox.{accepted}
-use Rattle.station.specs.Read.{isOwn}
+use Rattle.station.specs.Addressed.{isOwn}
 use Rattle.station.specs.Turn.{withOutbox}
 use Rattle.station.specs.declared.outbox.Accepted.{Accepted}
 use Rattle.station.specs.declared.station.Station.{Station}
@@ -25,15 +25,15 @@ use Rattle.bus.specs.declared.refusal.Refusal.the-variants.{NoMaster, No
 use Rattle.bus.specs.Bus.{turnAt, withTurn, refusedBy, done}
 use Rattle.bus.specs.Find.{firstOf}
 
-abbrev pub isNever : K.Kind → Bool
-isNever kind.Master = false
-isNever kind.Slave = false
-isNever kind.Broadcast = false
-isNever kind.Never = true
+abbrev pub isNever : R.Role → Bool
+isNever role.Master = false
+isNever role.Slave = false
+isNever role.Broadcast = false
+isNever role.Never = true
 
 -- A9 or AA
 unfoldable pub unusable : ℕ → Bool
-unusable a = isNever (kindOf a)
+unusable a = isNever (roleOf a)
 
 -- 2: ZZ is A9, AA, or the source's own master or slave address
 unfoldable pub noTarget : Station → ℕ → Bool
@@ -62,7 +62,7 @@ unfoldable pub queuesFrom : Bus → ℕ → ℕ → ℕ → ℕ → List ℕ →
 queuesFrom b i zz pb sb bytes =
     cond (noTarget (turnAt b i .station) zz) (refusedBy b NoTarget)
     (cond (noCommand pb sb) (refusedBy b NoCommand)
-    (cond (ltb 16 (length bytes)) (refusedBy b TooMuchData)
+    (cond (ltb mostData (length bytes)) (refusedBy b TooMuchData)
     (queuesTelegram b i (record { qq = turnAt b i .station .address; zz = zz; pb = pb; sb = sb; load = loadOf bytes }))))
 
 -- 1: source is no attached master

@@ -6,7 +6,7 @@ use lib.Dec.{ltb}
 use lib.ListN.{length}
 use Rattle.laws.specs.declared.Found.{Found}
 use Rattle.laws.specs.declared.Found.the-variants.{At, Missing}
-use Rattle.wire.specs.Load.{loadOf}
+use Rattle.wire.specs.Load.{mostData, loadOf}
 use Rattle.station.specs.Replies.{written}
 use Rattle.station.specs.Turn.{keeping}
 use Rattle.station.specs.declared.replies.Reply.{Reply}
@@ -39,7 +39,7 @@ writes b i r = writesAs (written (turnAt b i .station .replies) r) b i (turnAt b
 unfoldable pub repliesFrom : Bus → ℕ → ℕ → ℕ → List ℕ → Answer
 repliesFrom b i pb sb bytes =
     cond (noCommand pb sb) (refusedBy b NoCommand)
-    (cond (ltb 16 (length bytes)) (refusedBy b TooMuchData)
+    (cond (ltb mostData (length bytes)) (refusedBy b TooMuchData)
     (writes b i (record { pb = pb; sb = sb; load = loadOf bytes })))
 
 -- 11: address is not the slave address of an attached station, slave or master

@@ -1,20 +1,19 @@
 -- A station at rest: an AA was heard, only quiet since, no telegram held, no mark; it reads from the start and is told nothing.
 -- Assumes nothing.
 use mathlib.Core.Bool.{Bool, true, false, cond}
-use Prim.Native.Nat.{ℕ}
 use lib.Dec.{eqb}
 use Rattle.wire.specs.declared.reader.Cursor.{Cursor}
 use Rattle.wire.specs.declared.reader.Place.{Place}
 use Rattle.wire.specs.declared.reader.Place.the-variants.{Qq, Zz, Pb, Sb, Nn, Data, Crc}
 use Rattle.station.specs.Outbox.{heldIn}
-use Rattle.station.specs.declared.phase.Part.{Part}
-use Rattle.station.specs.declared.phase.Part.the-variants.{MasterPart, AnswerPart}
+use Rattle.wire.specs.declared.part.Part.{Part}
+use Rattle.wire.specs.declared.part.Part.the-variants.{MasterPart, AnswerPart}
 use Rattle.station.specs.declared.phase.Attempt.{Attempt}
 use Rattle.station.specs.declared.phase.Attempt.the-variants.{First, Again}
 use Rattle.station.specs.declared.phase.Phase.{Phase}
 use Rattle.station.specs.declared.phase.Phase.the-variants.{Silent, Reading, Sending, Awaiting, Judging, Owing, Releasing}
 use Rattle.station.specs.declared.phase.Since.{Since}
-use Rattle.station.specs.declared.phase.Since.the-variants.{Nothing, OneSymbol, Other}
+use Rattle.station.specs.declared.phase.Since.the-variants.{Nothing, OneSymbol, ManyOrNoSyn}
 use Rattle.station.specs.declared.phase.Told.{Told}
 use Rattle.station.specs.declared.phase.Told.the-variants.{Silence, Owns, Taken, Failed, Free, FailedFree, Given, Answered}
 use Rattle.station.specs.declared.station.Station.{Station}
@@ -63,7 +62,7 @@ fromStart Releasing = false
 abbrev pub idleSince : Since → Station → Bool
 idleSince Nothing s = cond (eqb (heldIn (s .outbox)) 0) (fromStart (s .phase)) false
 idleSince OneSymbol s = false
-idleSince Other s = false
+idleSince ManyOrNoSyn s = false
 
 unfoldable pub idle : Station → Bool
 idle s = cond (s .admitted) false (cond (s .marked) false (idleSince (s .since) s))

@@ -1,9 +1,9 @@
 -- A run of undisturbed slots. Assumes nothing.
-use mathlib.Core.Bool.{Bool, true, false, cond, not}
+use mathlib.Core.Bool.{Bool, true, false, cond}
 use Prim.Native.Nat.{ℕ, zero, suc, _+_, _-_, _%_, _^_}
 use lib.Dec.{eqb, ltb}
 use Rattle.bus.specs.declared.bus.Bus.{Bus}
-use Rattle.bus.specs.declared.find.Query.the-variants.{Addressee, Restless}
+use Rattle.bus.specs.declared.find.Query.the-variants.{WasTold, Restless}
 use Rattle.bus.specs.declared.run.Stop.{Stop}
 use Rattle.bus.specs.Find.{thereIs}
 use Rattle.bus.specs.Slot.{patience, slotRun}
@@ -14,7 +14,7 @@ runs zero b = record { bus = b; left = 0 }
 runs (suc n) b =
     let next = slotRun b in
     let rest = runs n next in
-    cond (thereIs next Addressee) (record { bus = next; left = n }) rest
+    cond (thereIs next WasTold) (record { bus = next; left = n }) rest
 
 -- at rest: after an AA and at least one quiet slot, with every station at rest
 unfoldable pub atRest : Bus → Bool

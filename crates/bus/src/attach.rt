@@ -6,7 +6,7 @@ use crate::bus::Answer;
 use crate::bus::Bus;
 use crate::find::Query;
 use crate::refusal::Refusal;
-use address::Kind;
+use address::Role;
 use station::phase::Told;
 use station::station::Station;
 use station::station::Turn;
@@ -15,11 +15,11 @@ use station::station::Turn;
 fn no_such_address(a: u8, master: bool) -> bool
     ensures { λ r. ⌜ r ≡ noSuchAddress a master ⌝ }
 {
-    match address::kind_of(a) {
-        Kind::Master => { if master { false } else { true } }
-        Kind::Slave => master,
-        Kind::Broadcast => true,
-        Kind::Never => true,
+    match address::role_of(a) {
+        Role::Master => { if master { false } else { true } }
+        Role::Slave => master,
+        Role::Broadcast => true,
+        Role::Never => true,
     }
 }
 
@@ -71,10 +71,10 @@ impl Bus {
     fn occupied(self, a: u8, master: bool) -> bool
         ensures { λ r. ⌜ r ≡ occupied self a master ⌝ }
     {
-        if self.there_is(Query::Owner(a)) {
+        if self.there_is(Query::Holder(a)) {
             true
         } else if master {
-            self.there_is(Query::Owner(address::slave_of(a)))
+            self.there_is(Query::Holder(address::slave_of(a)))
         } else {
             false
         }

@@ -3,7 +3,6 @@ ghost use mathlib.Core.Path.{_≡_};
 ghost use Rattle.bus.specs.Find.{slaveAddress, isMasterAt, meets, firstOf, thereIs};
 use crate::bus::Bus;
 use laws::Found;
-use station::phase::Told;
 use station::station::Station;
 use station::station::Turn;
 
@@ -14,9 +13,9 @@ pub enum Query {
     // Whether this is its slave address.
     Slave(u8),
     // Whether it answers to this address at all.
-    Owner(u8),
+    Holder(u8),
     // Whether the last slot told it something.
-    Addressee,
+    WasTold,
     // Whether it is anything but at rest.
     Restless,
 }
@@ -46,8 +45,8 @@ fn meets(t: Turn, q: Query) -> bool
     match q {
         Query::Master(a) => is_master_at(s, a),
         Query::Slave(a) => slave_address(s) == a,
-        Query::Owner(a) => s.is_own(a),
-        Query::Addressee => crate::rest::is_told(told),
+        Query::Holder(a) => s.is_own(a),
+        Query::WasTold => crate::rest::is_told(told),
         Query::Restless => { if crate::rest::rests(t) { false } else { true } }
     }
 }

@@ -5,7 +5,7 @@ use crate::bus::Answer;
 use crate::bus::Bus;
 use crate::find::Query;
 use crate::refusal::Refusal;
-use address::Kind;
+use address::Role;
 use laws::Found;
 use station::station::Station;
 use wire::form::Wire;
@@ -16,11 +16,11 @@ use wire::part::Telegram;
 pub(crate) fn unusable(s: u8) -> bool
     ensures { λ r. ⌜ r ≡ unusable s ⌝ }
 {
-    match address::kind_of(s) {
-        Kind::Master => false,
-        Kind::Slave => false,
-        Kind::Broadcast => false,
-        Kind::Never => true,
+    match address::role_of(s) {
+        Role::Master => false,
+        Role::Slave => false,
+        Role::Broadcast => false,
+        Role::Never => true,
     }
 }
 
@@ -61,7 +61,7 @@ impl Bus {
         if no_command(pb, sb) {
             return self.refused(Refusal::NoCommand);
         }
-        if 16 < bytes.len() {
+        if Load::MOST < bytes.len() {
             return self.refused(Refusal::TooMuchData);
         }
         let telegram = Telegram {

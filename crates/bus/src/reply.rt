@@ -26,7 +26,7 @@ impl Bus {
         if queue::no_command(pb, sb) {
             return self.refused(Refusal::NoCommand);
         }
-        if 16 < bytes.len() {
+        if Load::MOST < bytes.len() {
             return self.refused(Refusal::TooMuchData);
         }
         self.write(

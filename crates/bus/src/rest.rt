@@ -2,12 +2,12 @@
 ghost use mathlib.Core.Path.{_≡_};
 ghost use Rattle.bus.specs.Rest.{isTold, atStart, fromStart, idle, rests};
 use station::phase::Attempt;
-use station::phase::Part;
 use station::phase::Phase;
 use station::phase::Since;
 use station::phase::Told;
 use station::station::Station;
 use station::station::Turn;
+use wire::part::Part;
 use wire::reader::Cursor;
 use wire::reader::Place;
 
@@ -111,7 +111,7 @@ fn idle(s: Station) -> bool
                 }
             }
             Since::OneSymbol => false,
-            Since::Other => false,
+            Since::ManyOrNoSyn => false,
         }
     }
 }

@@ -24,7 +24,7 @@ impl Bus {
             let bus = stop.bus;
             stop = bus.stride(left);
             let after = stop.bus;
-            if after.there_is(Query::Addressee) {
+            if after.there_is(Query::WasTold) {
                 return stop;
             }
         }

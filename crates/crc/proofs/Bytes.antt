@@ -1,7 +1,6 @@
 -- The register stays a byte, and what 01 says of two entries of the reduction. Assumes nothing.
 use mathlib.Core.Path.{_≡_, refl}
-use mathlib.Core.List.{List, [], _∷_}
-use Prim.Native.Nat.{ℕ, zero, suc, _<_}
+use Prim.Native.Nat.{ℕ, _<_}
 use lib.Bits.{xor-lt}
 use lib.Dec.{ltb, ltb→lt}
 use Rattle.laws.proofs.Computed.{below}

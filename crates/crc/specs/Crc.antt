@@ -1,7 +1,7 @@
 -- The check symbol (01, "Wire form"): polynomial x^8 + x^7 + x^4 + x^3 + x + 1. House: the register starts at 0 and for
 -- each symbol becomes (register times x^8, reduced by the polynomial) xor symbol. Assumes nothing.
 use Prim.Native.Nat.{ℕ, zero, suc, _*_}
-use mathlib.Core.Bool.{Bool, true, false, cond}
+use mathlib.Core.Bool.{cond}
 use mathlib.Core.List.{List, [], _∷_}
 use lib.Dec.{ltb}
 use lib.Bits.{bitXor}

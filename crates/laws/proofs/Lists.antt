@@ -1,12 +1,12 @@
 -- Facts on lists that the kit's library lacks. Assumes nothing.
-use mathlib.Core.Path.{_≡_, refl, sym, _∙_}
+use mathlib.Core.Path.{_≡_, refl, sym, ap, _∙_}
 use mathlib.Core.List.{List, [], _∷_, _++_, map, append-assoc}
 use Prim.Native.Nat.{ℕ, zero, suc, _+_, _-_, _<_}
 use native.Mathlib.Nat.{le-of-suc-le-suc, not-suc-le-zero}
 use native.Mathlib.Numerals.{add-one}
 use native.Mathlib.Omega.{arith}
 use lib.ListN.{length, getD, set, take, drop, replicate, length-map}
-use lib.Seq.{length-take-le, set-at, take-suc}
+use lib.Seq.{length-take-le, set-at, take-all, take-suc}
 
 -- what owning an array of structs tells is the length of a mapped list
 pub length-mapped : (X Y : Type 0) (f : X → Y) (l : List X) (n : ℕ) → length (map f l) ≡ n → length l ≡ n
@@ -18,15 +18,26 @@ getD-within [] i d e h = absurd (not-suc-le-zero h)
 getD-within (a ∷ l) zero d e h = refl
 getD-within (a ∷ l) (suc i) d e h = getD-within l i d e (le-of-suc-le-suc h)
 
--- three stores that move a list of four up by one
-pub moved-up : {A : Type 0} (l : List A) (d : A) → length l ≡ 4
-    → set (set (set l 0 (getD l 1 d)) 1 (getD l 2 d)) 2 (getD l 3 d) ≡ drop 1 l ++ drop 3 l
-moved-up [] d h = absurd (omega arith)
-moved-up (a ∷ []) d h = absurd (omega arith)
-moved-up (a ∷ (b ∷ [])) d h = absurd (omega arith)
-moved-up (a ∷ (b ∷ (c ∷ []))) d h = absurd (omega arith)
-moved-up (a ∷ (b ∷ (c ∷ (e ∷ [])))) d h = refl
-moved-up (a ∷ (b ∷ (c ∷ (e ∷ (f ∷ l))))) d h = absurd (omega arith)
+-- the first k places hold what stood one place on
+abbrev pub movedUp : {A : Type 0} → ℕ → List A → List A
+movedUp k l = take k (drop 1 l) ++ drop k l
+
+moved-up-more : {A : Type 0} (k : ℕ) (l : List A) (d : A) → suc k < length l
+    → set (movedUp k l) k (getD (movedUp k l) (suc k) d) ≡ movedUp (suc k) l
+moved-up-more k [] d h = absurd (omega arith)
+moved-up-more k (a ∷ []) d h = absurd (omega arith)
+moved-up-more zero (a ∷ (b ∷ l)) d h = refl
+moved-up-more (suc k) (a ∷ (b ∷ l)) d h = ap (λ (m : List _). b ∷ m) (moved-up-more k (b ∷ l) d (omega arith))
+
+-- one place more
+pub moved-up-turn : {A : Type 0} (k : ℕ) (l : List A) (d : A) {m : List A} → k + 1 < length l → m ≡ movedUp k l
+    → set m k (getD m (k + 1) d) ≡ movedUp (k + 1) l
+moved-up-turn k l d h e = rw (e, add-one k) (moved-up-more k l d (omega arith))
+
+-- all but the last
+pub moved-up-all : {A : Type 0} (n : ℕ) (l : List A) → length l ≡ suc n → movedUp n l ≡ drop 1 l ++ drop n l
+moved-up-all n [] h = absurd (omega arith)
+moved-up-all n (a ∷ l) h = rw (take-all n l (omega arith))
 
 -- one element more copied into a list of n that was 0 throughout
 pub copied-one : (xs : List ℕ) (n i : ℕ) → i < n → i < length xs

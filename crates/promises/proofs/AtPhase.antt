@@ -8,28 +8,29 @@ use Rattle.wire.specs.Symbol.{kindOf}
 use Rattle.wire.specs.declared.symbol.Kind.{Kind}
 use Rattle.wire.specs.declared.symbol.Kind.the-variants.{Syn, Escape, Count, Plain}
 use Rattle.station.specs.Outbox.{heldIn}
-use Rattle.station.specs.Station.{bids}
-use Rattle.station.specs.Hear.{overNow, hearQuietAt, hearSymbolAt, hearsAs, hearQuiet, hearSymbol, hears}
+use Rattle.station.specs.Admission.{bids, overNow, noted}
+use Rattle.station.specs.Hear.{hearsAs, hearQuiet, hearSymbol, hears}
+use Rattle.station.specs.Table.{row, heardNothing, heardOther}
 use Rattle.station.specs.declared.phase.Phase.{Phase}
 use Rattle.station.specs.declared.phase.Sound.the-variants.{Quiet, Symbol}
 use Rattle.station.specs.declared.station.Station.{Station}
 
-pub hears-symbol : (s : Station) (b : ℕ) → (kindOf b ≡ Syn → ⊥) → hears s (Symbol b) ≡ hearSymbolAt (s .phase) s b
+pub hears-symbol : (s : Station) (b : ℕ) → (kindOf b ≡ Syn → ⊥) → hears s (Symbol b) ≡ row (s .phase) (heardOther b) (bids s) (noted s)
 unfolding hears hearSymbol
 hears-symbol s b n = go (kindOf b) refl
   where
-    go : (k : Kind) → kindOf b ≡ k → hearsAs k s b ≡ hearSymbolAt (s .phase) s b
+    go : (k : Kind) → kindOf b ≡ k → hearsAs k s b ≡ row (s .phase) (heardOther b) (bids s) (noted s)
     go Syn e = absurd (n e)
     go Escape e = refl
     go Count e = refl
     go Plain e = refl
 
-pub symbol-at : (s : Station) (b : ℕ) → (kindOf b ≡ Syn → ⊥) → (p : Phase) → s .phase ≡ p → hears s (Symbol b) ≡ hearSymbolAt p s b
-symbol-at s b k p e = hears-symbol s b k ∙ ap (λ (q : Phase). hearSymbolAt q s b) e
+pub symbol-at : (s : Station) (b : ℕ) → (kindOf b ≡ Syn → ⊥) → (p : Phase) → s .phase ≡ p → hears s (Symbol b) ≡ row p (heardOther b) (bids s) (noted s)
+symbol-at s b k p e = hears-symbol s b k ∙ ap (λ (q : Phase). row q (heardOther b) (bids s) (noted s)) e
 
-pub quiet-at : (s : Station) (p : Phase) → s .phase ≡ p → hears s Quiet ≡ hearQuietAt p (overNow s)
+pub quiet-at : (s : Station) (p : Phase) → s .phase ≡ p → hears s Quiet ≡ row p heardNothing (bids s) (overNow s)
 unfolding hears hearQuiet
-quiet-at s p e = ap (λ (q : Phase). hearQuietAt q (overNow s)) e
+quiet-at s p e = ap (λ (q : Phase). row q heardNothing (bids s) (overNow s)) e
 
 -- who bids is admitted and has a telegram waiting
 pub bidder-admitted : (s : Station) → bids s ≡ true → (s .admitted ≡ true) × (0 < heldIn (s .outbox))

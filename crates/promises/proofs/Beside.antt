@@ -11,7 +11,7 @@ use lib.Dec.{eqb}
 use lib.ListN.{length, length-append}
 use Rattle.wire.specs.Form.{bytesOf, form, covered, telegramForm, answerForm, holding}
 use Rattle.wire.specs.Reader.{answerStart, withLoad, readOne}
-use Rattle.wire.specs.Reading.{Sixteen, answer}
+use Rattle.wire.specs.Reading.{Sixteen}
 use Rattle.wire.specs.Symbol.{kindOf}
 use Rattle.wire.specs.declared.form.Wire.{Wire}
 use Rattle.wire.specs.declared.part.Load.{Load}
@@ -23,15 +23,15 @@ use Rattle.wire.specs.declared.reader.Place.the-variants.{Qq, Zz, Pb, Sb, Nn, D
 use Rattle.wire.specs.declared.symbol.Kind.the-variants.{Syn}
 use Rattle.wire.proofs.Reached.{Reached, reached-none, reached-more, form-more, form-whole}
 use Rattle.wire.proofs.Symbols.{telegram-fits, answer-fits}
-use Rattle.station.specs.Phase.{isAnswerPart}
-use Rattle.station.specs.Read.{forAll, answered, whole, readOn, readOnAt, reads, unread}
-use Rattle.station.specs.Station.{ack, nak, answering, readyAt, ready, bids}
+use Rattle.wire.specs.Part.{isAnswerPart}
+use Rattle.station.specs.Addressed.{forAll, answered}
+use Rattle.station.specs.Table.{whole, readOn, readOnAt, reads, handedOut, judgedTaken, readAgain, judges, left, sentWhole, sent, hearOwn, taken, nakHeard, hearReply, hearReading}
+use Rattle.station.specs.Admission.{bids, noted}
+use Rattle.station.specs.Station.{ack, nak, answering, readyAt, ready}
 use Rattle.station.specs.Replies.{answerFor}
 use Rattle.station.specs.Turn.{goes, withPart}
-use Rattle.station.specs.Judge.{handedOut, judgedTaken, readAgain, judges}
-use Rattle.station.specs.Send.{left, disturbed, failed, sentWhole, sent, hearOwn, taken, refused, hearReply}
-use Rattle.station.specs.Hear.{noted, hearReading, hears}
-use Rattle.station.specs.declared.phase.Part.the-variants.{MasterPart, AnswerPart}
+use Rattle.station.specs.Hear.{hears}
+use Rattle.wire.specs.declared.part.Part.the-variants.{MasterPart, AnswerPart}
 use Rattle.station.specs.declared.phase.Attempt.{Attempt}
 use Rattle.station.specs.declared.phase.Attempt.the-variants.{First, Again}
 use Rattle.station.specs.declared.phase.Phase.{Phase}
@@ -145,7 +145,7 @@ module _ (s : Station) (c : Cursor) (n : Attempt) (b : ℕ) (possible : Possible
   unfolding hearReading
   reads-answer = symbol-at s b k (Reading c AnswerPart n) at ∙ by-bid (bids s) refl
     where
-      by-bid : (r : Bool) → bids s ≡ r → hearReading s b c AnswerPart n ≡ reads (noted s) b c AnswerPart n
+      by-bid : (r : Bool) → bids s ≡ r → hearReading (bids s) (noted s) b c AnswerPart n ≡ reads (noted s) b c AnswerPart n
       by-bid true e = let q = sym at ∙ bids-at-start s possible e in let z : _≡_ {A = ℕ} 0 1 = cc q in absurd (omega arith)
       by-bid false e = rw e
 
@@ -189,12 +189,12 @@ module _ (s x : Station) (n : Attempt) (b : ℕ) (k : kindOf b ≡ Syn → ⊥) 
         → BesideTurn (hears s (Symbol b)) (sent (noted x) (length xs) AnswerPart n)
     unfolding answerForm sentWhole goes noted
     answer-heard [] f e =
-        let g = form-whole answer (withLoad memory l) memory (s .part) c xs b tt full array reached (f ∙ rw e refl) in
+        let g = form-whole AnswerPart (withLoad memory l) memory (s .part) c xs b tt full array reached (f ∙ rw e refl) in
         rw (reads-last s c n b possible at k (g .0), sent-last (noted x) (answerForm l) xs y [] f o (answer-fits l full) refl AnswerPart n)
         (record { now = awaits l full o (g .1 .bytes) })
     answer-heard (z ∷ zs) f e =
         let q : answerForm l ≡ xs ++ (b ∷ z ∷ zs) = f ∙ rw e refl in
-        let m = form-more answer (withLoad memory l) memory (s .part) c xs b tt full array reached z zs q in
+        let m = form-more AnswerPart (withLoad memory l) memory (s .part) c xs b tt full array reached z zs q in
         rw (reads-more s c n b possible at k m, sent-more (noted x) (answerForm l) xs y (z ∷ zs) f o (answer-fits l full) (omega arith) AnswerPart n)
         (record {
           now =
@@ -205,7 +205,7 @@ module _ (s x : Station) (n : Attempt) (b : ℕ) (k : kindOf b ≡ Syn → ⊥) 
     -- the symbol that is due is heard, and read; or another one, and the sender is silent
     answer-turn : (ys : List ℕ) → answerForm l ≡ xs ++ (y ∷ ys) → x .phase ≡ Sending (length xs) AnswerPart n
         → BesideTurn (hears s (Symbol b)) (hears x (Symbol b))
-    unfolding hearOwn disturbed goes noted
+    unfolding hearOwn goes noted
     answer-turn ys f e =
         rw (symbol-at x b k (Sending (length xs) AnswerPart n) e, due-is (noted x) (answerForm l) xs y ys f o (answer-fits l full))
         (tested (eqb y b) (λ e. answer-heard ys f (eqb-true y b e)) (λ _. record { now = silent }))
@@ -213,12 +213,12 @@ module _ (s x : Station) (n : Attempt) (b : ℕ) (k : kindOf b ≡ Syn → ⊥) 
   -- 00 and any other symbol end it for both; FF the first time starts it again for both
   judged-turn : {q : Bool} (l : Load) → s .phase ≡ Judging AnswerPart n true q → x .phase ≡ Awaiting AnswerPart n → Sixteen l
       → Sixteen (s .part .load) → x .out ≡ holding (answerForm l) → BesideTurn (hears s (Symbol b)) (hears x (Symbol b))
-  unfolding judges judgedTaken handedOut readAgain unread hearReply taken refused failed goes noted
+  unfolding judges judgedTaken handedOut hearReply taken goes noted
   judged-turn {q} l at waits full array o =
       rw (symbol-at s b k (Judging AnswerPart n true q) at, symbol-at x b k (Awaiting AnswerPart n) waits)
       (both (eqb b ack) (record { now = silent }) (both (eqb b nak) (again n) (record { now = silent })))
     where
-      again : (n : Attempt) → BesideTurn (readAgain (noted s) AnswerPart n) (refused (noted x) AnswerPart n)
+      again : (n : Attempt) → BesideTurn (readAgain n (noted s) AnswerPart) (nakHeard n (noted x) AnswerPart)
       again First =
           let q = answer-begins l in
           record { now = answers l (s .part) [] (q .0) (q .1) full array o (q .2) refl (reached-none answerStart (s .part)) }
@@ -250,7 +250,7 @@ module _ {h : Since} (s x : Station) (w : Follows h s) (v : Follows h x) (apart 
 
     part-turn : (y : ℕ) (ys : List ℕ) → telegramForm (s .part) ≡ xs ++ (y ∷ ys) → s .phase ≡ Sending (length xs) MasterPart n
         → BesideTurn (hears s (Symbol b)) (hears x (Symbol b))
-    unfolding hearOwn disturbed left noted
+    unfolding hearOwn left noted
     part-turn y ys f e =
         rw (
           symbol-at s b k (Sending (length xs) MasterPart n) e,
@@ -261,13 +261,13 @@ module _ {h : Since} (s x : Station) (w : Follows h s) (v : Follows h x) (apart 
     -- the acknowledgement: who judges hears it too, and who is silent stays so
     reply-turn : xs ≡ telegramForm (s .part) → forAll (s .part .zz) ≡ false → s .phase ≡ Awaiting MasterPart n
         → BesideTurn (hears s (Symbol b)) (hears x (Symbol b))
-    unfolding judges judgedTaken handedOut readAgain unread hearReply taken refused failed goes noted
+    unfolding judges judgedTaken handedOut hearReply taken goes noted
     reply-turn f one e = by-own (ownAs (x .address) (x .master) (s .part .zz)) refl
       where
         by-own : (r : Bool) → ownAs (x .address) (x .master) (s .part .zz) ≡ r → BesideTurn (hears s (Symbol b)) (hears x (Symbol b))
         by-own true i = judged (v .listens .judges (s .part) n xs (stranger g apart) (rw i refl) one u f)
           where
-            again : (n : Attempt) → BesideTurn (refused (noted s) MasterPart n) (readAgain (noted x) MasterPart n)
+            again : (n : Attempt) → BesideTurn (nakHeard n (noted s) MasterPart) (readAgain n (noted x) MasterPart)
             again First = record { now = not-past refl }
             again Again = record { now = silent }
 
@@ -291,7 +291,7 @@ module _ {h : Since} (s x : Station) (possible : Possible s) (w : Follows h s) (
   enters-turn n p i e f = record { now = not-past (enters (moves-of s n) (ap pastPart i ∙ e) (ap sendsMaster i ∙ f)) }
 
   quiet-beside : BesideTurn (hears s Quiet) (hears x Quiet)
-  unfolding disturbed left goes
+  unfolding left goes
   quiet-beside = go (s .phase) (x .phase) (x .out) refl refl refl now
     where
       by-sends : (p : Phase) → s .phase ≡ p → pastPart p ≡ false → Sends h (s .address) (s .master) (s .part) (s .out) p

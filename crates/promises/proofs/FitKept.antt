@@ -13,12 +13,12 @@ use lib.ListN.{length, length-set}
 use Rattle.laws.specs.First.{firstFrom, isFound}
 use Rattle.laws.specs.declared.Found.{Found}
 use Rattle.laws.specs.declared.Found.the-variants.{At, Missing}
-use Rattle.address.specs.Kind.{kindOf}
+use Rattle.address.specs.Role.{roleOf}
 use Rattle.address.specs.Master.{isMaster, slaveOf}
-use Rattle.address.specs.declared.Kind as K
-use Rattle.address.specs.declared.Kind.the-variants as kind
+use Rattle.address.specs.declared.Role as R
+use Rattle.address.specs.declared.Role.the-variants as role
 use Rattle.address.proofs.Which.{master-exactly-when}
-use Rattle.station.specs.Read.{isOwn}
+use Rattle.station.specs.Addressed.{isOwn}
 use Rattle.station.specs.Station.{fresh, ready}
 use Rattle.station.specs.declared.phase.Sound.{Sound}
 use Rattle.station.specs.declared.station.Station.{Station}
@@ -26,7 +26,7 @@ use Rattle.station.specs.declared.station.Turn.{Turn}
 use Rattle.station.proofs.Frame.{hears-lasting, ready-lasting}
 use Rattle.bus.specs.declared.bus.Bus.{Bus}
 use Rattle.bus.specs.declared.bus.Answer.{Answer}
-use Rattle.bus.specs.declared.find.Query.the-variants.{Owner}
+use Rattle.bus.specs.declared.find.Query.the-variants.{Holder}
 use Rattle.bus.specs.Bus.{seats, poweredOn, attachedTo, attachedTurns, turnAt, withTurn}
 use Rattle.bus.specs.Find.{meets, firstOf, thereIs}
 use Rattle.bus.specs.Attach.{wrongFor, noSuchAddress, occupied, newcomer}
@@ -67,14 +67,14 @@ still-fit b after w n same f =
 -- ---- the newcomer
 
 -- nobody has an address that no search finds
-nobody-has : (b : Bus) (a : ℕ) → length (b .turns) ≡ seats → thereIs b (Owner a) ≡ false
+nobody-has : (b : Bus) (a : ℕ) → length (b .turns) ≡ seats → thereIs b (Holder a) ≡ false
     → (i : ℕ) → i < attachedTo b → isOwn (stationAt b i) a ≡ false
 unfolding thereIs firstOf
-nobody-has b a w e i h = go (firstFrom (meets (Owner a)) 0 (attachedTurns b)) refl e
+nobody-has b a w e i h = go (firstFrom (meets (Holder a)) 0 (attachedTurns b)) refl e
   where
-    go : (f : Found) → firstFrom (meets (Owner a)) 0 (attachedTurns b) ≡ f → isFound f ≡ false → isOwn (stationAt b i) a ≡ false
+    go : (f : Found) → firstFrom (meets (Holder a)) 0 (attachedTurns b) ≡ f → isFound f ≡ false → isOwn (stationAt b i) a ≡ false
     go (At j) q e = absurd (true≢false e)
-    go Missing q e = every-seat (λ (t : Turn). meets (Owner a) t ≡ false) b w (missing-each (meets (Owner a)) 0 (attachedTurns b) q) i h
+    go Missing q e = every-seat (λ (t : Turn). meets (Holder a) t ≡ false) b w (missing-each (meets (Holder a)) 0 (attachedTurns b) q) i h
 
 -- what a newcomer would answer to, nobody does
 apart-from : (b : Bus) (a : ℕ) (m : Bool) → length (b .turns) ≡ seats → occupied b a m ≡ false → (i x : ℕ) → i < attachedTo b
@@ -82,10 +82,10 @@ apart-from : (b : Bus) (a : ℕ) (m : Bool) → length (b .turns) ≡ seats → 
 unfolding occupied isOwn fresh
 apart-from b a m w o i x h p q = by-first (eqb x a) refl q
   where
-    e : (thereIs b (Owner a) ≡ false) × (cond m (thereIs b (Owner (slaveOf a))) false ≡ false)
-    e = either-false (thereIs b (Owner a)) (cond m (thereIs b (Owner (slaveOf a))) false) o
+    e : (thereIs b (Holder a) ≡ false) × (cond m (thereIs b (Holder (slaveOf a))) false ≡ false)
+    e = either-false (thereIs b (Holder a)) (cond m (thereIs b (Holder (slaveOf a))) false) o
 
-    by-second : (n : Bool) → cond n (thereIs b (Owner (slaveOf a))) false ≡ false → cond n (eqb x (slaveOf a)) false ≡ true → ⊥
+    by-second : (n : Bool) → cond n (thereIs b (Holder (slaveOf a))) false ≡ false → cond n (eqb x (slaveOf a)) false ≡ true → ⊥
     by-second true r q = false≢true (sym (nobody-has b (slaveOf a) w r i h) ∙ rw (eqb-true x (slaveOf a) q) at p)
     by-second false r q = false≢true q
 
@@ -93,18 +93,18 @@ apart-from b a m w o i x h p q = by-first (eqb x a) refl q
     by-first true r q = false≢true (sym (nobody-has b a w (e .0) i h) ∙ rw (eqb-true x a r) at p)
     by-first false r q = by-second m (e .1) q
 
-wrong-not : (k : K.Kind) → wrongFor k true ≡ false → k ≡ kind.Master
-wrong-not kind.Master e = refl
-wrong-not kind.Slave e = absurd (true≢false e)
-wrong-not kind.Broadcast e = absurd (true≢false e)
-wrong-not kind.Never e = absurd (true≢false e)
+wrong-not : (k : R.Role) → wrongFor k true ≡ false → k ≡ role.Master
+wrong-not role.Master e = refl
+wrong-not role.Slave e = absurd (true≢false e)
+wrong-not role.Broadcast e = absurd (true≢false e)
+wrong-not role.Never e = absurd (true≢false e)
 
 newcomer-addressed : (a : ℕ) (m : Bool) → a < 256 → noSuchAddress a m ≡ false → Addressed (newcomer a m .station)
 unfolding newcomer noSuchAddress fresh
 newcomer-addressed a m h n = record { byte = h; master-address = of-master m n }
   where
-    of-master : (m : Bool) → wrongFor (kindOf a) m ≡ false → m ≡ true → isMaster a ≡ true
-    of-master true n e = master-exactly-when a h .0 (wrong-not (kindOf a) n)
+    of-master : (m : Bool) → wrongFor (roleOf a) m ≡ false → m ≡ true → isMaster a ≡ true
+    of-master true n e = master-exactly-when a h .0 (wrong-not (roleOf a) n)
     of-master false n e = absurd (false≢true e)
 
 module _ (b : Bus) (a : ℕ) (m : Bool) (f : Fit b) (byte : a < 256) (n : noSuchAddress a m ≡ false) (o : occupied b a m ≡ false) (room : b .count < seats) where

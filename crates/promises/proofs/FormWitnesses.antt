@@ -6,7 +6,10 @@ use mathlib.Core.List.{List, [], _∷_}
 use native.Mathlib.Omega.{arith}
 use lib.ListN.{replicate}
 use Rattle.wire.specs.Form.{bytesOf}
-use Rattle.wire.specs.Reading.{Sixteen, readAll, Which, master, answer, startOf, before}
+use Rattle.wire.specs.Reader.{startOf}
+use Rattle.wire.specs.Reading.{Sixteen, readAll, before}
+use Rattle.wire.specs.declared.part.Part.{Part}
+use Rattle.wire.specs.declared.part.Part.the-variants.{MasterPart, AnswerPart}
 use Rattle.wire.specs.declared.part.Telegram.{Telegram}
 use Rattle.wire.specs.declared.reader.Outcome.the-variants.{Whole}
 use Rattle.bus.specs.declared.refusal.Verdict.the-variants.{Done}
@@ -36,7 +39,7 @@ abbrev nothingRead : Telegram
 nothingRead = record { qq = 0; zz = 0; pb = 0; sb = 0; load = record { nn = 0; bytes = replicate 16 0 } }
 
 -- what a reader makes of symbols: whether the CRC is right, what stands before NN, the bytes, and what is left unread
-record Makes (w : Which) (ss : List ℕ) (right : Bool) (hs bs left : List ℕ) : Type 0 where
+record Makes (w : Part) (ss : List ℕ) (right : Bool) (hs bs left : List ℕ) : Type 0 where
   array : Sixteen (nothingRead .load)
   outcome : readAll (startOf w) nothingRead ss .step .outcome ≡ Whole right
   head : before w (readAll (startOf w) nothingRead ss .step .part) ≡ hs
@@ -44,15 +47,15 @@ record Makes (w : Which) (ss : List ℕ) (right : Bool) (hs bs left : List ℕ) 
   rest : readAll (startOf w) nothingRead ss .rest ≡ left
 
 -- the part and then a 00, which is left unread
-reads-part : Makes master (0x10 ∷ 0x08 ∷ 0x50 ∷ 0x02 ∷ 0x01 ∷ 0xA9 ∷ 0x01 ∷ 0xDC ∷ 0x00 ∷ []) true (0x10 ∷ 0x08 ∷ 0x50 ∷ 0x02 ∷ []) (0xAA ∷ []) (0x00 ∷ [])
+reads-part : Makes MasterPart (0x10 ∷ 0x08 ∷ 0x50 ∷ 0x02 ∷ 0x01 ∷ 0xA9 ∷ 0x01 ∷ 0xDC ∷ 0x00 ∷ []) true (0x10 ∷ 0x08 ∷ 0x50 ∷ 0x02 ∷ []) (0xAA ∷ []) (0x00 ∷ [])
 unfolding run readAll
 reads-part = record { array = refl; outcome = refl; head = refl; bytes = refl; rest = refl }
 
 -- with a wrong CRC other symbols are read as the same message: `queued-one-form` has to ask for the right one
-reads-wrong-crc : Makes master (0x10 ∷ 0x08 ∷ 0x50 ∷ 0x02 ∷ 0x01 ∷ 0xA9 ∷ 0x01 ∷ 0xDD ∷ 0x00 ∷ []) false (0x10 ∷ 0x08 ∷ 0x50 ∷ 0x02 ∷ []) (0xAA ∷ []) (0x00 ∷ [])
+reads-wrong-crc : Makes MasterPart (0x10 ∷ 0x08 ∷ 0x50 ∷ 0x02 ∷ 0x01 ∷ 0xA9 ∷ 0x01 ∷ 0xDD ∷ 0x00 ∷ []) false (0x10 ∷ 0x08 ∷ 0x50 ∷ 0x02 ∷ []) (0xAA ∷ []) (0x00 ∷ [])
 unfolding run readAll
 reads-wrong-crc = record { array = refl; outcome = refl; head = refl; bytes = refl; rest = refl }
 
-reads-answer : Makes answer (0x01 ∷ 0x64 ∷ 0xFF ∷ 0x00 ∷ []) true [] (0x64 ∷ []) (0x00 ∷ [])
+reads-answer : Makes AnswerPart (0x01 ∷ 0x64 ∷ 0xFF ∷ 0x00 ∷ []) true [] (0x64 ∷ []) (0x00 ∷ [])
 unfolding run readAll
 reads-answer = record { array = refl; outcome = refl; head = refl; bytes = refl; rest = refl }

@@ -7,15 +7,15 @@ use mathlib.Core.List.{List, [], _∷_}
 use Prim.Native.Nat.{ℕ, _<_}
 use native.Mathlib.Nat.{not-suc-le-zero}
 use borrow.Author.Tests.{eq-eqb}
-use Rattle.wire.specs.Reading.{master}
 use Rattle.wire.specs.Symbol.{kindOf}
 use Rattle.wire.specs.declared.symbol.Kind.the-variants.{Syn}
 use Rattle.wire.proofs.SoFar.{start}
 use Rattle.wire.proofs.SymbolKind.{kind-syn}
 use Rattle.station.specs.Outbox.{noneHeld}
 use Rattle.station.specs.Station.{syn, fresh, answering, ready}
-use Rattle.station.specs.Hear.{toldBySyn, hears}
-use Rattle.station.specs.declared.phase.Part.the-variants.{MasterPart, AnswerPart}
+use Rattle.station.proofs.AfterSyn.{toldBySyn, after-syn, syn-told}
+use Rattle.station.specs.Hear.{hears}
+use Rattle.wire.specs.declared.part.Part.the-variants.{MasterPart, AnswerPart}
 use Rattle.station.specs.declared.phase.Attempt.the-variants.{First}
 use Rattle.station.specs.declared.phase.Phase.{Phase}
 use Rattle.station.specs.declared.phase.Phase.the-variants.{Silent, Reading, Sending, Awaiting, Judging, Owing, Releasing}
@@ -24,7 +24,6 @@ use Rattle.station.specs.declared.phase.Sound.the-variants.{Quiet, Symbol}
 use Rattle.station.specs.declared.station.Station.{Station}
 use Rattle.station.specs.declared.station.Turn.{Turn}
 use Rattle.station.proofs.Aa.{IsSyn, aa, NoSyn, quiet, symbol, by-sound}
-use Rattle.station.proofs.AfterSyn.{after-syn, syn-told}
 use Rattle.station.proofs.Frame.{Begins, as-it-stood, answers, ready-begins, ready-outbox, outbox-after}
 use Rattle.station.proofs.Turned.{moves-of}
 use Rattle.bus.specs.declared.bus.Bus.{Bus}
@@ -100,7 +99,7 @@ module _ (s : Station) (xs : List ℕ) (w : InStep (s .part) xs (s .phase)) (o :
   by-syn (aa {b} e) =
       let i = after-syn s (aa e) in
       record {
-        step = rw (i .phase, i .part, syn-since (s .phase) xs b e) (reading (start master (s .part) (in-step-array w)));
+        step = rw (i .phase, i .part, syn-since (s .phase) xs b e) (reading (start MasterPart (s .part) (in-step-array w)));
         out = nothing-out (ap handsOut (syn-told s (aa e)) ∙ syn-out (s .phase));
       }
 

@@ -8,8 +8,10 @@ use native.Mathlib.Omega.{arith}
 use borrow.Author.Tests.{ne-eqb}
 use lib.Dec.{eqb}
 use Rattle.wire.specs.Form.{telegramForm, answerForm}
-use Rattle.wire.specs.Reader.{readOne}
-use Rattle.wire.specs.Reading.{Sixteen, Which, master, answer}
+use Rattle.wire.specs.Reader.{readOne, startOf}
+use Rattle.wire.specs.Reading.{Sixteen}
+use Rattle.wire.specs.declared.part.Part.{Part}
+use Rattle.wire.specs.declared.part.Part.the-variants.{MasterPart, AnswerPart}
 use Rattle.wire.specs.Symbol.{kindOf}
 use Rattle.wire.specs.declared.part.Telegram.{Telegram}
 use Rattle.wire.specs.declared.reader.Cursor.{Cursor}
@@ -18,8 +20,6 @@ use Rattle.wire.proofs.SoFar.{SoFar, IsWhole, start}
 use Rattle.wire.proofs.OneMore.{step-more, step-whole, whole-form}
 use Rattle.wire.proofs.Endings.{array-kept}
 use Rattle.wire.proofs.SymbolKind.{kind-syn}
-use Rattle.station.specs.declared.phase.Part.{Part}
-use Rattle.station.specs.declared.phase.Part.the-variants.{MasterPart, AnswerPart}
 use Rattle.station.specs.declared.phase.Attempt.{Attempt}
 use Rattle.station.specs.declared.phase.Attempt.the-variants.{First, Again}
 use Rattle.station.specs.declared.phase.Phase.{Phase}
@@ -27,26 +27,21 @@ use Rattle.station.specs.declared.phase.Phase.the-variants.{Silent, Reading, Se
 use Rattle.station.specs.declared.phase.Sound.the-variants.{Quiet, Symbol}
 use Rattle.station.specs.declared.phase.Told.{Told}
 use Rattle.station.specs.declared.phase.Told.the-variants.{Silence, Owns, Taken, Failed, Free, FailedFree, Given, Answered}
-use Rattle.station.specs.Read.{forAll}
+use Rattle.station.specs.Addressed.{forAll}
 use Rattle.station.specs.Station.{syn, ack, nak}
-use Rattle.station.specs.Judge.{startOf}
 use Rattle.station.proofs.Moves.{Moves, silent-on, owing-on, reading-waits, awaiting-waits, acknowledges, leaves-released, leaves-disturbed, stops-disturbed, wins, reads-on, not-for-it, reads-in-vain, breaks-answer, gives-broadcast, reads-whole, reads-too-long, sends-on, takes-broadcast, sends-whole, awaits-answer, ends-taken, answer-taken, sends-again, ends-failed, answer-failed, gives-and-owes, gives, gives-answer, reads-again, gives-nothing, answer-lost}
 use Rattle.promises.specs.Heard.{isFirst, sinceAfter, WasHeard}
 use Rattle.promises.proofs.PartAfter.{ForOne, PartAfter, is-oldest, is-read, reading-kept, silent-kept, sending-kept, awaiting-kept, judging-kept, owing-kept, releasing-kept}
-
-abbrev pub whichOf : Part → Which
-whichOf MasterPart = master
-whichOf AnswerPart = answer
 
 -- a phase, the part beside it, and the symbols since its reading began
 pub data InStep (part : Telegram) (xs : List ℕ) : Phase → Type 0 where
   silent : Sixteen (part .load) → InStep part xs Silent
   -- it has read exactly these symbols
-  reading : {c : Cursor} {p : Part} {a : Attempt} → SoFar (whichOf p) c part xs → InStep part xs (Reading c p a)
+  reading : {c : Cursor} {p : Part} {a : Attempt} → SoFar p c part xs → InStep part xs (Reading c p a)
   sending : {i : ℕ} {p : Part} {a : Attempt} → Sixteen (part .load) → InStep part xs (Sending i p a)
   awaiting : {p : Part} {a : Attempt} → Sixteen (part .load) → InStep part xs (Awaiting p a)
   -- where the CRC matched, they are a whole part
-  judging : {p : Part} {a : Attempt} {m k : Bool} → Sixteen (part .load) → ForOne p part → (m ≡ true → IsWhole (whichOf p) part xs true)
+  judging : {p : Part} {a : Attempt} {m k : Bool} → Sixteen (part .load) → ForOne p part → (m ≡ true → IsWhole p part xs true)
       → InStep part xs (Judging p a m k)
   owing : Sixteen (part .load) → InStep part xs Owing
   releasing : Sixteen (part .load) → InStep part xs Releasing
@@ -95,9 +90,8 @@ told-nothing n s = record { step = s; out = nothing-out n }
 no-syn-eqb : (b : ℕ) → (kindOf b ≡ Syn → ⊥) → eqb b syn ≡ false
 no-syn-eqb b n = ne-eqb b syn (λ e. n (kind-syn b .1 e))
 
-start-again : (p : Part) (part : Telegram) → Sixteen (part .load) → SoFar (whichOf p) (startOf p) part []
-start-again MasterPart part f = start master part f
-start-again AnswerPart part f = start answer part f
+start-again : (p : Part) (part : Telegram) → Sixteen (part .load) → SoFar p (startOf p) part []
+start-again p part f = start p part f
 
 read-array : (c : Cursor) (part : Telegram) (b : ℕ) → Sixteen (part .load) → Sixteen (readOne c part b .part .load)
 read-array c part b f = array-kept c part b ∙ f
@@ -120,7 +114,7 @@ answer-since xs e = rw e
 
 -- ---- what is handed out
 
-given-one : {part : Telegram} {xs : List ℕ} → forAll (part .zz) ≡ false → IsWhole master part xs true → WasHeard Given part (xs ++ (ack ∷ []))
+given-one : {part : Telegram} {xs : List ℕ} → forAll (part .zz) ≡ false → IsWhole MasterPart part xs true → WasHeard Given part (xs ++ (ack ∷ []))
 unfolding telegramForm
 given-one o w =
     record {
@@ -130,7 +124,7 @@ given-one o w =
       answer = λ e. let z : _≡_ {A = ℕ} 0 1 = cc in absurd (omega arith);
     }
 
-given-all : {part : Telegram} {xs : List ℕ} → forAll (part .zz) ≡ true → IsWhole master part xs true → WasHeard Given part xs
+given-all : {part : Telegram} {xs : List ℕ} → forAll (part .zz) ≡ true → IsWhole MasterPart part xs true → WasHeard Given part xs
 unfolding telegramForm
 given-all o w =
     record {
@@ -140,7 +134,7 @@ given-all o w =
       answer = λ e. let z : _≡_ {A = ℕ} 0 1 = cc in absurd (omega arith);
     }
 
-answered-out : {part : Telegram} {xs : List ℕ} → IsWhole answer part xs true → WasHeard Answered part (xs ++ (ack ∷ []))
+answered-out : {part : Telegram} {xs : List ℕ} → IsWhole AnswerPart part xs true → WasHeard Answered part (xs ++ (ack ∷ []))
 unfolding answerForm
 answered-out w =
     record {
@@ -185,13 +179,13 @@ module _ {bid : Bool} {own : ℕ} {part oldest : Telegram} {xs : List ℕ} (kept
   symbol-next {b = b} n (reads-whole {c = c} {p = p} {m = m} e) (is-read o) (reading h) =
       told-nothing refl
       (judging (read-array c part b (h .array)) o
-      (λ r. rw (read-since xs b n) (subst (IsWhole (whichOf p) (readOne c part b .part) (xs ++ (b ∷ []))) r (step-whole h b e))))
+      (λ r. rw (read-since xs b n) (subst (IsWhole p (readOne c part b .part) (xs ++ (b ∷ []))) r (step-whole h b e))))
   symbol-next {b = b} n (reads-too-long {c = c} _) (is-read o) s =
       told-nothing refl (judging (read-array c part b (in-step-array s)) o (λ r. absurd (false≢true r)))
   symbol-next n sends-on sending-kept s = told-nothing refl (sending (in-step-array s))
   symbol-next n (takes-broadcast _) sending-kept s = told-nothing refl (releasing (in-step-array s))
   symbol-next n sends-whole sending-kept s = told-nothing refl (awaiting (in-step-array s))
-  symbol-next n (awaits-answer e) awaiting-kept s = told-nothing refl (reading (rw (answer-since xs e) (start answer part (in-step-array s))))
+  symbol-next n (awaits-answer e) awaiting-kept s = told-nothing refl (reading (rw (answer-since xs e) (start AnswerPart part (in-step-array s))))
   symbol-next n (ends-taken _) awaiting-kept s = told-nothing refl (releasing (in-step-array s))
   symbol-next n (answer-taken _) awaiting-kept s = told-nothing refl (silent (in-step-array s))
   symbol-next n (sends-again _) awaiting-kept s = told-nothing refl (sending (in-step-array s))

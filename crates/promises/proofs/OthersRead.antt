@@ -12,7 +12,8 @@ use lib.Dec.{eqb}
 use lib.ListN.{length, length-append}
 use Rattle.wire.specs.Form.{covered, form, telegramForm}
 use Rattle.wire.specs.Reader.{masterStart, readOne}
-use Rattle.wire.specs.Reading.{Sixteen, SameMessage, master}
+use Rattle.wire.specs.Reading.{Sixteen, SameMessage}
+use Rattle.wire.specs.declared.part.Part.the-variants.{MasterPart}
 use Rattle.wire.specs.Symbol.{kindOf}
 use Rattle.wire.specs.declared.part.Telegram.{Telegram}
 use Rattle.wire.specs.declared.reader.Cursor.{Cursor}
@@ -22,13 +23,12 @@ use Rattle.wire.specs.declared.reader.Place.the-variants.{Qq, Zz, Pb, Sb, Nn, D
 use Rattle.wire.specs.declared.symbol.Kind.the-variants.{Syn}
 use Rattle.wire.proofs.Reached.{Reached, reached-none, reached-more, reached-so-far, form-more, form-whole}
 use Rattle.wire.proofs.SoFar as so
-use Rattle.station.specs.Read.{forAll, isOwn, whole, addressed, readOn, readOnAt, reads}
-use Rattle.station.specs.Station.{nak, bids}
+use Rattle.station.specs.Addressed.{forAll, isOwn}
+use Rattle.station.specs.Table.{whole, addressed, readOn, readOnAt, reads, judges, hearBid, hearReading}
+use Rattle.station.specs.Admission.{bids, owned, withdrawn, noted}
+use Rattle.station.specs.Station.{nak}
 use Rattle.station.specs.Turn.{goes, withPart}
-use Rattle.station.specs.Judge.{readAgain, judges}
-use Rattle.station.specs.Send.{owned, withdrawn, hearBid}
-use Rattle.station.specs.Hear.{noted, hearReading, hears}
-use Rattle.station.specs.declared.phase.Part.the-variants.{MasterPart}
+use Rattle.station.specs.Hear.{hears}
 use Rattle.station.specs.declared.phase.Attempt.{Attempt}
 use Rattle.station.specs.declared.phase.Attempt.the-variants.{First, Again}
 use Rattle.station.specs.declared.phase.Phase.{Phase}
@@ -157,7 +157,7 @@ module _ (s : Station) (b : ℕ) (c : Cursor) (n : Attempt) (at : s .phase ≡ R
 
 -- ---- where PB comes next, QQ and ZZ were read, and only there
 
-at-pb-two : {register nn : ℕ} {p : Telegram} {xs : List ℕ} {l : Place} {o : Bool} → so.Upto register nn p xs master l o → l ≡ Pb
+at-pb-two : {register nn : ℕ} {p : Telegram} {xs : List ℕ} {l : Place} {o : Bool} → so.Upto register nn p xs MasterPart l o → l ≡ Pb
     → xs ≡ p .qq ∷ p .zz ∷ []
 at-pb-two (so.at-qq _ _) e = let z : _≡_ {A = ℕ} 0 1 = cc e in absurd (omega arith)
 at-pb-two (so.at-zz _ _ _) e = let z : _≡_ {A = ℕ} 0 1 = cc e in absurd (omega arith)
@@ -167,7 +167,7 @@ at-pb-two (so.at-nn _ _ _) e = let z : _≡_ {A = ℕ} 0 1 = cc e in absurd (ome
 at-pb-two (so.at-data _ _ _ _) e = let z : _≡_ {A = ℕ} 0 1 = cc e in absurd (omega arith)
 at-pb-two (so.at-crc _ _ _) e = let z : _≡_ {A = ℕ} 0 1 = cc e in absurd (omega arith)
 
-two-at-pb : {register nn : ℕ} {p : Telegram} {xs : List ℕ} {l : Place} {o : Bool} → so.Upto register nn p xs master l o → length xs ≡ 2 → l ≡ Pb
+two-at-pb : {register nn : ℕ} {p : Telegram} {xs : List ℕ} {l : Place} {o : Bool} → so.Upto register nn p xs MasterPart l o → length xs ≡ 2 → l ≡ Pb
 two-at-pb (so.at-qq q _) e = absurd (omega (arith, ap length q))
 two-at-pb (so.at-zz _ q _) e = absurd (omega (arith, ap length q))
 two-at-pb (so.at-pb _ _ q _) e = refl
@@ -216,9 +216,9 @@ module _ (s : Station) (h : Since) (adm : s .admitted ≡ true → h ≡ since [
     unfolding telegramForm
     next-read t n xs y ys o keen u f =
         let r = w .reads t n xs b (y ∷ ys) o keen u f in
-        let m = form-more master t (r .memory) (s .part) (r .cursor) xs b (o .message) (o .full) (r .array) (r .reached) y ys f in
+        let m = form-more MasterPart t (r .memory) (s .part) (r .cursor) xs b (o .message) (o .full) (r .array) (r .reached) y ys f in
         let g = reached-more masterStart (r .cursor) (r .memory) (s .part) xs b (r .reached) m in
-        let v = reached-so-far master (readOne (r .cursor) (s .part) b .cursor) (r .memory) (readOne (r .cursor) (s .part) b .part) (xs ++ (b ∷ [])) (r .array) g in
+        let v = reached-so-far MasterPart (readOne (r .cursor) (s .part) b .cursor) (r .memory) (readOne (r .cursor) (s .part) b .part) (xs ++ (b ∷ [])) (r .array) g in
         record {
           read = r;
           more-so = m;
@@ -277,7 +277,7 @@ module _ (s : Station) (h : Since) (adm : s .admitted ≡ true → h ≡ since [
     unfolding telegramForm
     at-end t n xs o e u f =
         let r = w .reads t n xs b [] o (inl e) u (sym f) in
-        let q = form-whole master t (r .memory) (s .part) (r .cursor) xs b (o .message) (o .full) (r .array) (r .reached) (sym f) in
+        let q = form-whole MasterPart t (r .memory) (s .part) (r .cursor) xs b (o .message) (o .full) (r .array) (r .reached) (sym f) in
         let z : readOne (r .cursor) (s .part) b .part .zz ≡ t .zz = cc (q .1 .head) in
         record { cursor = r .cursor; phase = r .phase; right = q .0; same = q .1; same-zz = z }
 
@@ -296,7 +296,7 @@ module _ (s : Station) (h : Since) (adm : s .admitted ≡ true → h ≡ since [
     -- FF: it reads the part again
     reads-once-more : {q : Bool} → b ≡ nak → s .phase ≡ Judging MasterPart First true q
         → ReadsIt (hears s (Symbol b) .station .part) (hears s (Symbol b) .station .phase) Again []
-    unfolding judges readAgain goes noted
+    unfolding judges goes noted
     reads-once-more {q} e p =
         let i : hears s (Symbol b) ≡ goes (noted s) (Reading masterStart MasterPart Again) Silence =
         symbol-at s b k (Judging MasterPart First true q) p ∙ rw e refl in

@@ -10,12 +10,13 @@ use Rattle.wire.specs.Form.{telegramForm}
 use Rattle.wire.specs.Symbol.{kindOf}
 use Rattle.wire.specs.declared.part.Telegram.{Telegram}
 use Rattle.wire.specs.declared.symbol.Kind.the-variants.{Syn}
-use Rattle.station.specs.Read.{forAll, answered}
+use Rattle.station.specs.Addressed.{forAll, answered}
 use Rattle.station.specs.Station.{ack}
 use Rattle.station.specs.Turn.{goes}
-use Rattle.station.specs.Judge.{handedOut, judgedTaken, judges}
-use Rattle.station.specs.Hear.{noted, hears}
-use Rattle.station.specs.declared.phase.Part.the-variants.{MasterPart}
+use Rattle.station.specs.Table.{handedOut, judgedTaken, judges}
+use Rattle.station.specs.Admission.{noted}
+use Rattle.station.specs.Hear.{hears}
+use Rattle.wire.specs.declared.part.Part.the-variants.{MasterPart}
 use Rattle.station.specs.declared.phase.Attempt.{Attempt}
 use Rattle.station.specs.declared.phase.Phase.the-variants.{Silent, Judging}
 use Rattle.station.specs.declared.phase.Sound.the-variants.{Symbol}

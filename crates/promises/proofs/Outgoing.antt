@@ -13,7 +13,7 @@ use Rattle.laws.specs.First.{firstFrom}
 use Rattle.laws.specs.declared.Found.{Found}
 use Rattle.laws.specs.declared.Found.the-variants.{At, Missing}
 use Rattle.address.specs.Half.{halfIndex}
-use Rattle.address.specs.Kind.{kindOf}
+use Rattle.address.specs.Role.{roleOf}
 use Rattle.address.specs.Master.{isMaster, slaveOf}
 use Rattle.wire.specs.Form.{room, telegramForm}
 use Rattle.wire.specs.Load.{loadOf}
@@ -21,7 +21,7 @@ use Rattle.wire.specs.Reading.{Sixteen, Usable, Message}
 use Rattle.wire.specs.declared.part.Telegram.{Telegram}
 use Rattle.wire.proofs.Fitting.{load-sixteen}
 use Rattle.station.specs.Outbox.{queueDepth, noneHeld, heldIn, waiting, accepted, oldestOf, dropped}
-use Rattle.station.specs.Read.{isOwn}
+use Rattle.station.specs.Addressed.{isOwn}
 use Rattle.station.specs.declared.outbox.Outbox.{Outbox}
 use Rattle.station.specs.declared.phase.Told.{Told}
 use Rattle.station.specs.declared.phase.Told.the-variants.{Silence, Owns, Taken, Failed, Free, FailedFree, Given, Answered}
@@ -151,7 +151,7 @@ found {A} test d i j (a ∷ l) e = go (test a) refl (found test d (suc i) j l) e
     go false q on e = let r = on e in (suc (r .0), omega (arith, r .1), omega (arith, r .2), r .3)
 
 usable-not : (z : ℕ) → unusable z ≡ false → Usable z
-unfolding unusable kindOf isMaster halfIndex
+unfolding unusable roleOf isMaster halfIndex
 usable-not z e =
     record {
       notEscape = λ q. absurd (true≢false (sym (ap unusable q) ∙ e));

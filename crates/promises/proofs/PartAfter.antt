@@ -4,7 +4,6 @@ use mathlib.Core.Path.{_≡_, refl, sym, subst}
 use mathlib.Core.Bool.{Bool, true, false, cond}
 use Prim.Native.Nat.{ℕ, _+_}
 use lib.Dec.{eqb, ltb}
-use Rattle.wire.specs.Form.{room}
 use Rattle.wire.specs.Reader.{readOne}
 use Rattle.wire.specs.Symbol.{kindOf}
 use Rattle.wire.specs.declared.part.Telegram.{Telegram}
@@ -15,8 +14,8 @@ use Rattle.wire.specs.declared.reader.Place.{Place}
 use Rattle.wire.specs.declared.reader.Place.the-variants.{Qq, Zz, Pb, Sb, Nn, Data, Crc}
 use Rattle.wire.specs.declared.symbol.Kind.{Kind}
 use Rattle.wire.specs.declared.symbol.Kind.the-variants.{Syn, Escape, Count, Plain}
-use Rattle.station.specs.declared.phase.Part.{Part}
-use Rattle.station.specs.declared.phase.Part.the-variants.{MasterPart, AnswerPart}
+use Rattle.wire.specs.declared.part.Part.{Part}
+use Rattle.wire.specs.declared.part.Part.the-variants.{MasterPart, AnswerPart}
 use Rattle.station.specs.declared.phase.Attempt.{Attempt}
 use Rattle.station.specs.declared.phase.Attempt.the-variants.{First, Again}
 use Rattle.station.specs.declared.phase.Phase.{Phase}
@@ -24,18 +23,18 @@ use Rattle.station.specs.declared.phase.Phase.the-variants.{Silent, Reading, Se
 use Rattle.station.specs.declared.phase.Sound.{Sound}
 use Rattle.station.specs.declared.phase.Sound.the-variants.{Quiet, Symbol}
 use Rattle.station.specs.declared.phase.Failure.{Failure}
-use Rattle.station.specs.declared.phase.Failure.the-variants.{NoAcknowledgement, TwiceRefused, SynHeard, PairBroken}
+use Rattle.station.specs.declared.phase.Failure.the-variants.{Disturbed, WrongAck, TwiceNak, SynHeard, PairBroken}
 use Rattle.station.specs.declared.phase.Told.{Told}
 use Rattle.station.specs.declared.phase.Told.the-variants.{Owns}
 use Rattle.station.specs.declared.station.Station.{Station}
 use Rattle.station.specs.declared.station.Turn.{Turn}
 use Rattle.station.specs.Outbox.{oldestOf}
-use Rattle.station.specs.Station.{ack, nak, due, bids}
+use Rattle.station.specs.Admission.{bids, owned, withdrawn, overNow, noted}
+use Rattle.station.specs.Station.{ack, nak, due}
 use Rattle.station.specs.Turn.{goes, withPart}
-use Rattle.station.specs.Read.{forAll, answered, isOwn, unread, whole, addressed, readOn, readOnAt, readsAs, reads}
-use Rattle.station.specs.Judge.{handedOut, judgedTaken, readAgain, judges}
-use Rattle.station.specs.Send.{left, released, disturbed, failed, owned, withdrawn, hearBid, sentWhole, sent, hearOwnAs, hearOwn, taken, refused, hearReply}
-use Rattle.station.specs.Hear.{overNow, noted, hearQuietAt, hearSymbolAt, hearsAs, hearQuiet, hearReading, hearSymbol, hears}
+use Rattle.station.specs.Addressed.{forAll, answered, isOwn}
+use Rattle.station.specs.Table.{readerFails, whole, addressed, readOn, readOnAt, readsAs, reads, handedOut, judgedTaken, readAgain, judges, left, released, senderFails, hearBid, sentWhole, sent, hearOwnAs, hearOwn, taken, nakHeard, hearReply, row, hearReading, heardNothing, heardOther, ownerFails}
+use Rattle.station.specs.Hear.{hearsAs, hearQuiet, hearSymbol, hears}
 use Rattle.station.proofs.Aa.{NoSyn, quiet, symbol}
 
 -- a master part that is judged is for one station
@@ -84,24 +83,24 @@ module _ (x : Station) where
   unfolding left
   leaving t = record { kept = refl }
 
-  disturbed-keeps : (p : Part) → Keeps (x .part) (disturbed x p)
-  unfolding disturbed
-  disturbed-keeps MasterPart = leaving _
-  disturbed-keeps AnswerPart = going _ _
+  owner-keeps : (f : Failure) → Keeps (x .part) (ownerFails f x)
+  owner-keeps Disturbed = leaving _
+  owner-keeps WrongAck = going _ _
+  owner-keeps TwiceNak = going _ _
+  owner-keeps SynHeard = leaving _
+  owner-keeps PairBroken = going _ _
 
-  failed-keeps : (p : Part) (f : Failure) → Keeps (x .part) (failed x p f)
-  unfolding failed
-  failed-keeps MasterPart f = going _ _
-  failed-keeps AnswerPart f = going _ _
+  sender-keeps : (p : Part) (f : Failure) → Keeps (x .part) (senderFails p f x)
+  sender-keeps MasterPart f = owner-keeps f
+  sender-keeps AnswerPart f = going _ _
 
   released-keeps : Keeps (x .part) (released x)
   unfolding released
   released-keeps = leaving _
 
-  unread-keeps : (p : Part) (f : Failure) → Keeps (x .part) (unread x p f)
-  unfolding unread
-  unread-keeps MasterPart f = going _ _
-  unread-keeps AnswerPart f = going _ _
+  reader-keeps : (p : Part) (f : Failure) → Keeps (x .part) (readerFails p f x)
+  reader-keeps MasterPart f = going _ _
+  reader-keeps AnswerPart f = owner-keeps f
 
   sentWhole-keeps : (p : Part) (a : Attempt) → Keeps (x .part) (sentWhole x p a)
   unfolding sentWhole
@@ -110,46 +109,44 @@ module _ (x : Station) where
 
   sent-keeps : (i : ℕ) (p : Part) (a : Attempt) → Keeps (x .part) (sent x i p a)
   unfolding sent
-  sent-keeps i p a = either (ltb i room) (either (ltb (i + 1) (x .out .len)) (going _ _) (sentWhole-keeps p a)) (sentWhole-keeps p a)
+  sent-keeps i p a = either (ltb (i + 1) (x .out .len)) (going _ _) (sentWhole-keeps p a)
 
   hearOwn-keeps : (b i : ℕ) (p : Part) (a : Attempt) → Keeps (x .part) (hearOwn x b i p a)
   unfolding hearOwn
   hearOwn-keeps b i p a = by-due (due x i)
     where
       by-due : (d : Sound) → Keeps (x .part) (hearOwnAs d x b i p a)
-      by-due Quiet = disturbed-keeps p
-      by-due (Symbol own) = either (eqb own b) (sent-keeps i p a) (disturbed-keeps p)
+      by-due Quiet = sender-keeps p Disturbed
+      by-due (Symbol own) = either (eqb own b) (sent-keeps i p a) (sender-keeps p Disturbed)
 
   taken-keeps : (p : Part) → Keeps (x .part) (taken x p)
   unfolding taken
   taken-keeps MasterPart = either (answered (x .part .zz)) (going _ _) (going _ _)
   taken-keeps AnswerPart = going _ _
 
-  refused-keeps : (p : Part) (a : Attempt) → Keeps (x .part) (refused x p a)
-  unfolding refused
-  refused-keeps p First = going _ _
-  refused-keeps p Again = failed-keeps p TwiceRefused
+  nak-keeps : (p : Part) (a : Attempt) → Keeps (x .part) (nakHeard a x p)
+  nak-keeps p First = going _ _
+  nak-keeps p Again = sender-keeps p TwiceNak
 
   hearReply-keeps : (b : ℕ) (p : Part) (a : Attempt) → Keeps (x .part) (hearReply x b p a)
   unfolding hearReply
   hearReply-keeps b p a =
-      either (eqb b ack) (taken-keeps p) (either (eqb b nak) (refused-keeps p a) (failed-keeps p NoAcknowledgement))
+      either (eqb b ack) (taken-keeps p) (either (eqb b nak) (nak-keeps p a) (sender-keeps p WrongAck))
 
   handedOut-keeps : (p : Part) → Keeps (x .part) (handedOut x p)
   unfolding handedOut
   handedOut-keeps MasterPart = either (answered (x .part .zz)) (going _ _) (going _ _)
   handedOut-keeps AnswerPart = going _ _
 
-  readAgain-keeps : (p : Part) (a : Attempt) → Keeps (x .part) (readAgain x p a)
-  unfolding readAgain
+  readAgain-keeps : (p : Part) (a : Attempt) → Keeps (x .part) (readAgain a x p)
   readAgain-keeps p First = going _ _
-  readAgain-keeps p Again = unread-keeps p TwiceRefused
+  readAgain-keeps p Again = reader-keeps p TwiceNak
 
   judges-keeps : (b : ℕ) (p : Part) (a : Attempt) (m : Bool) → Keeps (x .part) (judges x b p a m)
   unfolding judges judgedTaken
   judges-keeps b p a m =
-      either (eqb b ack) (either m (handedOut-keeps p) (unread-keeps p NoAcknowledgement))
-      (either (eqb b nak) (readAgain-keeps p a) (unread-keeps p NoAcknowledgement))
+      either (eqb b ack) (either m (handedOut-keeps p) (reader-keeps p WrongAck))
+      (either (eqb b nak) (readAgain-keeps p a) (reader-keeps p WrongAck))
 
 -- ---- who reads has the part with the symbol read
 
@@ -166,10 +163,9 @@ module _ (x : Station) where
   unfolding goes
   into q t o = record { read = refl; one = o }
 
-  unread-reads : (p : Part) (f : Failure) → Reads (x .part) (unread x p f)
-  unfolding unread
-  unread-reads MasterPart f = into _ _ tt
-  unread-reads AnswerPart f = into _ _ tt
+  vain-reads : (p : Part) → Reads (x .part) (readerFails p PairBroken x)
+  vain-reads MasterPart = into _ _ tt
+  vain-reads AnswerPart = into _ _ tt
 
   whole-reads : (p : Part) (a : Attempt) (m : Bool) → Reads (x .part) (whole x p a m)
   unfolding whole
@@ -194,11 +190,11 @@ module _ (x : Station) where
 
   outcome-reads : (o : Outcome) (c : Cursor) (p : Part) (a : Attempt) → Reads (x .part) (readsAs o x c p a)
   outcome-reads More c p a = readOn-reads c p a
-  outcome-reads Cut c p a = unread-reads p SynHeard
-  outcome-reads NoMaster c p a = unread-reads p PairBroken
-  outcome-reads Unusable c p a = unread-reads p PairBroken
+  outcome-reads Cut c p a = vain-reads p
+  outcome-reads NoMaster c p a = vain-reads p
+  outcome-reads Unusable c p a = vain-reads p
   outcome-reads TooLong c p a = whole-reads p a false
-  outcome-reads BrokenPair c p a = unread-reads p PairBroken
+  outcome-reads BrokenPair c p a = vain-reads p
   outcome-reads (Whole m) c p a = whole-reads p a m
 
 reads-one : (x : Station) (b : ℕ) (c : Cursor) (p : Part) (a : Attempt) → Reads (readOne c (x .part) b .part) (reads x b c p a)
@@ -230,7 +226,7 @@ module _ (s : Station) where
       by-address true = is-oldest
       by-address false = with-read b c p a (reads-one (withdrawn (noted s) b) b c p a)
 
-  reading-part : (b : ℕ) (c : Cursor) (p : Part) (a : Attempt) → AfterTurn s (Reading c p a) (Symbol b) (hearReading s b c p a)
+  reading-part : (b : ℕ) (c : Cursor) (p : Part) (a : Attempt) → AfterTurn s (Reading c p a) (Symbol b) (hearReading (bids s) (noted s) b c p a)
   unfolding hearReading noted
   reading-part b c p a = by-bid (bids s)
     where
@@ -238,16 +234,16 @@ module _ (s : Station) where
       by-bid true = bid-part b c p a
       by-bid false = with-read b c p a (reads-one (noted s) b c p a)
 
-  quiet-part : (p : Phase) → AfterTurn s p Quiet (hearQuietAt p (overNow s))
+  quiet-part : (p : Phase) → AfterTurn s p Quiet (row p heardNothing (bids s) (overNow s))
   quiet-part Silent = with-kept Silent Quiet (going (overNow s) _ _) silent-kept
   quiet-part (Reading c p a) = with-kept (Reading c p a) Quiet (going (overNow s) _ _) reading-kept
-  quiet-part (Sending i p a) = with-kept (Sending i p a) Quiet (disturbed-keeps (overNow s) p) sending-kept
+  quiet-part (Sending i p a) = with-kept (Sending i p a) Quiet (sender-keeps (overNow s) p Disturbed) sending-kept
   quiet-part (Awaiting p a) = with-kept (Awaiting p a) Quiet (going (overNow s) _ _) awaiting-kept
   quiet-part (Judging p a m k) = with-kept (Judging p a m k) Quiet (going (overNow s) _ _) judging-kept
   quiet-part Owing = with-kept Owing Quiet (going (overNow s) _ _) owing-kept
   quiet-part Releasing = with-kept Releasing Quiet (released-keeps (overNow s)) releasing-kept
 
-  symbol-part : (b : ℕ) (p : Phase) → AfterTurn s p (Symbol b) (hearSymbolAt p s b)
+  symbol-part : (b : ℕ) (p : Phase) → AfterTurn s p (Symbol b) (row p (heardOther b) (bids s) (noted s))
   unfolding noted
   symbol-part b Silent = with-kept Silent (Symbol b) (going (noted s) _ _) silent-kept
   symbol-part b (Reading c p a) = reading-part b c p a

@@ -10,21 +10,21 @@ use lib.Dec.{eqb, ltb}
 use Rattle.address.specs.Half.{lowHalf, highHalf}
 use Rattle.address.specs.Master.{isMaster}
 use Rattle.address.proofs.Masters.{master-no-other-use}
-use Rattle.wire.specs.Reader.{masterStart, onward, more, readQq, readOther, readOne, readAs, withQq}
+use Rattle.wire.specs.Reader.{masterStart, onward, more, readQq, readPlace, readOne, readAs, withQq}
 use Rattle.wire.specs.Symbol.{kindOf}
 use Rattle.wire.specs.declared.reader.Cursor.{Cursor}
 use Rattle.wire.specs.declared.reader.Place.the-variants.{Zz}
 use Rattle.wire.specs.declared.symbol.Kind.{Kind}
 use Rattle.wire.specs.declared.symbol.Kind.the-variants.{Count, Plain}
 use Rattle.wire.proofs.SymbolKind.{by-kind}
-use Rattle.station.specs.Hear.{admits, admitsAfter, overNow, hearQuietAt, hearQuiet, noted, hearReading, hearSymbolAt, hearSymbol, hearsAs, hears}
+use Rattle.station.specs.Admission.{admits, admitsAfter, overNow, noted, owned, withdrawn, bids, sayBid}
+use Rattle.station.specs.Hear.{hearQuiet, hearSymbol, hearsAs, hears}
+use Rattle.station.specs.Table.{row, hearReading, readOn, readsStep, reads, hearBid, heardNothing, heardOther}
 use Rattle.station.specs.Outbox.{heldIn}
 use Rattle.station.specs.Phase.{owner}
-use Rattle.station.specs.Read.{readOn, readsStep, reads}
-use Rattle.station.specs.Send.{owned, withdrawn, hearBid}
-use Rattle.station.specs.Station.{syn, ready, bids, sayBid, saysAt, says}
+use Rattle.station.specs.Station.{syn, ready, saysAt, says}
 use Rattle.station.specs.Turn.{goes, withPart}
-use Rattle.station.specs.declared.phase.Part.the-variants.{MasterPart}
+use Rattle.wire.specs.declared.part.Part.the-variants.{MasterPart}
 use Rattle.station.specs.declared.phase.Attempt.{Attempt}
 use Rattle.station.specs.declared.phase.Attempt.the-variants.{First}
 use Rattle.station.specs.declared.phase.Phase.{Phase}
@@ -93,16 +93,16 @@ readOne-qq x w =
     goes (withPart x (withQq (x .part) w)) (Reading (onward masterStart w Zz false) MasterPart First) Silence
 
 reads-master : (x : Station) (w : ℕ) → isMaster w ≡ true → reads x w masterStart MasterPart First ≡ readOne-qq x w
-unfolding reads readOne readOther masterStart readQq more readOn onward
+unfolding reads readOne readPlace masterStart readQq more readOn onward
 reads-master x w m =
     read-kind (λ k. readsStep (readAs k masterStart (x .part) w) x MasterPart First ≡ readOne-qq x w) w m (rw m) (rw m)
 
 heard-opens : {s : Station} → Opens s → (w : ℕ) → isMaster w ≡ true
     → hears s (Symbol w) ≡ cond (bids s) (cond (eqb w (s .address)) (owned (noted s)) (readOne-qq (withdrawn (noted s) w) w)) (readOne-qq (noted s) w)
 unfolding hearSymbol hearReading hearBid noted
-heard-opens {s} o w m = heard-master s w m ∙ ap (λ (p : Phase). hearSymbolAt p s w) (o .phase) ∙ both-read
+heard-opens {s} o w m = heard-master s w m ∙ ap (λ (p : Phase). row p (heardOther w) (bids s) (noted s)) (o .phase) ∙ both-read
   where
-    both-read : hearReading s w masterStart MasterPart First
+    both-read : hearReading (bids s) (noted s) w masterStart MasterPart First
         ≡ cond (bids s) (cond (eqb w (s .address)) (owned (noted s)) (readOne-qq (withdrawn (noted s) w) w)) (readOne-qq (noted s) w)
     both-read =
         ap (λ (t : Turn). cond (bids s) (cond (eqb w (s .address)) (owned (noted s)) t) (reads (noted s) w masterStart MasterPart First))
@@ -226,7 +226,7 @@ lost-says {a} {s} l = rw (mute-ready s (l .mute)) (by-phase (s .phase) (l .mute)
     by-phase Silent silent = refl
     by-phase (Reading c p k) reading = rw (l .admitted)
 
-quiet-at : {a : ℕ} {s : Station} → Lost a s → {p : Phase} → Mute p → Lost a (hearQuietAt p (overNow s) .station)
+quiet-at : {a : ℕ} {s : Station} → Lost a s → {p : Phase} → Mute p → Lost a (row p heardNothing (bids s) (overNow s) .station)
 unfolding goes
 quiet-at l silent = record { mute = silent; admitted = refl; since = l .since; near = l .near }
 quiet-at l reading = record { mute = reading; admitted = refl; since = l .since; near = l .near }
@@ -236,7 +236,7 @@ pub quiet-lost : {a : ℕ} {s : Station} → Lost a s → Lost a (hears s Quiet 
 unfolding hears hearQuiet
 quiet-lost {s = s} l = quiet-at l (l .mute)
 
-quiet-waits-at : {a : ℕ} {s : Station} → Waits a s → {p : Phase} → Mute p → Waits a (hearQuietAt p (overNow s) .station)
+quiet-waits-at : {a : ℕ} {s : Station} → Waits a s → {p : Phase} → Mute p → Waits a (row p heardNothing (bids s) (overNow s) .station)
 unfolding goes
 quiet-waits-at v silent = record { address = v .address; master = v .master; marked = v .marked; holds = v .holds }
 quiet-waits-at v reading = record { address = v .address; master = v .master; marked = v .marked; holds = v .holds }

@@ -4,20 +4,20 @@ use mathlib.Core.List.{List}
 use Rattle.laws.specs.First.{firstFrom}
 use Rattle.crc.specs.Crc.{timesX, timesXⁿ, crcStep, crcFrom, crcOf}
 use Rattle.address.specs.Half.{halfIndex, classOf, subOf}
-use Rattle.address.specs.Kind.{kindOf as addressKind}
+use Rattle.address.specs.Role.{roleOf}
 use Rattle.address.specs.Master.{isMaster, slaveOf}
 use Rattle.wire.specs.Form.{covered, form, telegramForm, answerForm, holding}
 use Rattle.wire.specs.Load.{fitting, loadOf}
 use Rattle.wire.specs.Pair.{expandOne, expand, undoFirst, undoSecond, undo}
-use Rattle.wire.specs.Reader.{masterStart, answerStart, ended, more, onward, placeAfter, readQq, readNn, readByte, readData, readCrc, readEscape, readOther, readOne}
+use Rattle.wire.specs.Reader.{masterStart, answerStart, ended, more, onward, placeAfter, readQq, readNn, readByte, readData, readCrc, readHead, readPlace, readOne}
 use Rattle.wire.specs.Symbol.{kindOf}
-use Rattle.station.specs.Hear.{admits, restarted, hearSyn, hearQuiet, noted, hearReading, hearSymbol, hears}
-use Rattle.station.specs.Judge.{handedOut, judgedTaken, readAgain, judges}
+use Rattle.station.specs.Admission.{admits, restarted, noted, owned, withdrawn, bids, sayBid}
+use Rattle.station.specs.Hear.{cut, hearSyn, hearQuiet, hearSymbol, hears}
+use Rattle.station.specs.Table.{hearReading, handedOut, judgedTaken, judges, whole, addressed, readOn, reads, left, released, hearBid, sentWhole, sent, hearOwn, taken, hearReply}
 use Rattle.station.specs.Outbox.{noneHeld, heldIn, accepted, oldestOf, dropped}
-use Rattle.station.specs.Read.{forAll, answered, isOwn, unread, whole, addressed, readOn, reads}
+use Rattle.station.specs.Addressed.{forAll, answered, isOwn}
 use Rattle.station.specs.Replies.{noEntries, isFor, countIn, entryOf, entryAt, withEntry, added, written, answerFor}
-use Rattle.station.specs.Send.{left, released, disturbed, failed, owned, withdrawn, hearBid, sentWhole, sent, hearOwn, taken, refused, hearReply}
-use Rattle.station.specs.Station.{fresh, answering, ready, bids, sayBid, due, acknowledgement, says}
+use Rattle.station.specs.Station.{fresh, answering, ready, due, acknowledgement, says}
 use Rattle.station.specs.Turn.{goes}
 use Rattle.bus.specs.declared.bus.Bus.{Bus}
 use Rattle.bus.specs.Attach.{noSuchAddress, occupied, newcomer, takesSeat, attaches}
@@ -30,12 +30,12 @@ use Rattle.promises.specs.Calls.{Call, afterCalls}
 use Rattle.promises.specs.Heard.{sinceCalls}
 
 unfoldable pub run : List Call → Bus
-unfolding firstFrom timesX timesXⁿ crcStep crcFrom crcOf halfIndex classOf subOf addressKind isMaster slaveOf covered form telegramForm
+unfolding firstFrom timesX timesXⁿ crcStep crcFrom crcOf halfIndex classOf subOf roleOf isMaster slaveOf covered form telegramForm
     answerForm holding fitting loadOf expandOne expand undoFirst undoSecond undo masterStart answerStart ended more onward placeAfter
-    readQq readNn readByte readData readCrc readEscape readOther readOne kindOf admits restarted hearSyn hearQuiet noted hearReading
-    hearSymbol hears handedOut judgedTaken readAgain judges noneHeld heldIn accepted oldestOf dropped forAll answered isOwn unread
+    readQq readNn readByte readData readCrc readHead readPlace readOne kindOf admits restarted cut hearSyn hearQuiet noted hearReading
+    hearSymbol hears handedOut judgedTaken judges noneHeld heldIn accepted oldestOf dropped forAll answered isOwn
     whole addressed readOn reads noEntries isFor countIn entryOf entryAt withEntry added written answerFor left released
-    disturbed failed owned withdrawn hearBid sentWhole sent hearOwn taken refused hearReply fresh answering ready bids sayBid due
+    owned withdrawn hearBid sentWhole sent hearOwn taken hearReply fresh answering ready bids sayBid due
     acknowledgement says goes noSuchAddress occupied newcomer takesSeat attaches poweredOn attachedTo turnAt withTurn refusedBy done
     slaveAddress isMasterAt firstOf thereIs unusable noTarget noCommand holds queuesTelegram queuesFrom queues writes repliesFrom
     replies generatorSays spoken slotHeard slotRun afterCalls sinceCalls

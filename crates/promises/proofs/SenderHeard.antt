@@ -14,13 +14,14 @@ use Rattle.wire.specs.declared.part.Telegram.{Telegram}
 use Rattle.wire.specs.declared.symbol.Kind.the-variants.{Syn}
 use Rattle.wire.proofs.Symbols.{telegram-fits}
 use Rattle.station.specs.Outbox.{oldestOf}
-use Rattle.station.specs.Read.{forAll, answered}
-use Rattle.station.specs.Station.{ack, nak, due, bids}
+use Rattle.station.specs.Addressed.{forAll, answered}
+use Rattle.station.specs.Admission.{bids, owned, overNow, noted}
+use Rattle.station.specs.Station.{ack, nak, due}
 use Rattle.station.specs.Turn.{goes}
-use Rattle.station.specs.Send.{left, disturbed, failed, owned, hearBid, sentWhole, sent, hearOwn, taken, refused, hearReply}
-use Rattle.station.specs.Hear.{overNow, noted, hearQuietAt, hearSymbolAt, hearQuiet, hearReading, hears}
-use Rattle.station.specs.declared.phase.Part.{Part}
-use Rattle.station.specs.declared.phase.Part.the-variants.{MasterPart}
+use Rattle.station.specs.Table.{left, hearBid, sentWhole, sent, hearOwn, taken, nakHeard, hearReply, row, hearReading, heardNothing, heardOther}
+use Rattle.station.specs.Hear.{hearQuiet, hears}
+use Rattle.wire.specs.declared.part.Part.{Part}
+use Rattle.wire.specs.declared.part.Part.the-variants.{MasterPart}
 use Rattle.station.specs.declared.phase.Attempt.{Attempt}
 use Rattle.station.specs.declared.phase.Attempt.the-variants.{First, Again}
 use Rattle.station.specs.declared.phase.Phase.{Phase}
@@ -105,16 +106,14 @@ module _ (x : Station) (fs xs : List ℕ) (y : ℕ) (ys : List ℕ) (f : fs ≡ 
   pub sent-last : ys ≡ [] → (p : Part) (n : Attempt) → sent x (length xs) p n ≡ sentWhole x p n
   unfolding sent
   sent-last e p n =
-      let k : length xs < room = omega (arith, form-length) in
       let l : x .out .len ≤ length xs + 1 = omega (arith, out-length, ap length e) in
-      rw (lt-ltb (length xs) room k, le-ltb (length xs + 1) (x .out .len) l)
+      rw (le-ltb (length xs + 1) (x .out .len) l)
 
   pub sent-more : 0 < length ys → (p : Part) (n : Attempt) → sent x (length xs) p n ≡ goes x (Sending (length xs + 1) p n) Silence
   unfolding sent
   sent-more g p n =
-      let k : length xs < room = omega (arith, form-length) in
       let l : length xs + 1 < x .out .len = omega (arith, out-length) in
-      rw (lt-ltb (length xs) room k, lt-ltb (length xs + 1) (x .out .len) l)
+      rw (lt-ltb (length xs + 1) (x .out .len) l)
 
 -- ---- after a slot
 
@@ -165,7 +164,7 @@ module _ (x : Station) (h : Since) where
   own-turn : (b : ℕ) (xs : List ℕ) (y : ℕ) (ys : List ℕ) {k : ℕ} {n : Attempt} → Upto (x .part) n xs h → telegramForm (x .part) ≡ xs ++ (y ∷ ys)
       → length xs ≡ k → x .out ≡ holding (telegramForm (x .part)) → Outgoing (x .address) (x .master) (x .part)
       → SendsTurn (sinceNext h b) (hearOwn x b k MasterPart n)
-  unfolding hearOwn disturbed left
+  unfolding hearOwn left
   own-turn b xs y ys {n = n} u f l o g =
       rw (← l, due-is x (telegramForm (x .part)) xs y ys f o (telegram-fits (x .part) (g .full)))
       (tested (eqb y b) (λ e. own-heard b xs y ys u f o g (eqb-true y b e)) (λ _. record { now = other refl }))
@@ -173,12 +172,12 @@ module _ (x : Station) (h : Since) where
   reply-turn : (b : ℕ) (xs : List ℕ) (n : Attempt) → Upto (x .part) n xs h → xs ≡ telegramForm (x .part) → forAll (x .part .zz) ≡ false
       → x .out ≡ holding (telegramForm (x .part)) → Outgoing (x .address) (x .master) (x .part)
       → SendsTurn (sinceNext h b) (hearReply x b MasterPart n)
-  unfolding hearReply taken refused failed goes
+  unfolding hearReply taken goes
   reply-turn b xs n u f a o g =
       tested (eqb b ack) (λ _. tested (answered (x .part .zz)) (λ _. record { now = other refl }) (λ _. record { now = other refl }))
       (λ _. tested (eqb b nak) (λ e. by-attempt n u (eqb-true b nak e)) (λ _. record { now = other refl }))
     where
-      by-attempt : (n : Attempt) → Upto (x .part) n xs h → b ≡ nak → SendsTurn (sinceNext h b) (refused x MasterPart n)
+      by-attempt : (n : Attempt) → Upto (x .part) n xs h → b ≡ nak → SendsTurn (sinceNext h b) (nakHeard n x MasterPart)
       by-attempt First u e =
           let q = form-begins (x .part) in
           record { now = sending [] (x .part .qq) (q .0) (upto-again b e f a u) (q .1) refl o g }
@@ -187,16 +186,16 @@ module _ (x : Station) (h : Since) where
 module _ (s : Station) (h : Since) (w : Possible s) (k : Kept (s .outbox)) (out : AllOut (s .address) (s .master) (s .outbox))
     (adm : s .admitted ≡ true → h ≡ since []) (u : SendsAt h s) where
   pub quiet-sends : SendsTurn h (hears s Quiet)
-  unfolding hears hearQuiet disturbed left goes
+  unfolding hears hearQuiet left goes
   quiet-sends = go (s .phase) refl u
     where
-      go : (p : Phase) → s .phase ≡ p → Sends h (s .address) (s .master) (s .part) (s .out) p → SendsTurn h (hearQuietAt (s .phase) (overNow s))
+      go : (p : Phase) → s .phase ≡ p → Sends h (s .address) (s .master) (s .part) (s .out) p → SendsTurn h (row (s .phase) heardNothing (bids s) (overNow s))
       go p e (other f) =
           record { now = other (keeps-other (moves-of s quiet) (rw e f) (λ b q. let z : _≡_ {A = ℕ} 0 1 = cc q in absurd (omega arith))) }
       go p e (sending xs y ys v f l o g) = rw e (record { now = other refl })
       go p e (awaiting xs v f a o g) = rw e (record { now = awaiting xs v f a o g })
 
-  won-turn : (b : ℕ) → bids s ≡ true → b ≡ s .address → hearSymbolAt (s .phase) s b ≡ owned (noted s)
+  won-turn : (b : ℕ) → bids s ≡ true → b ≡ s .address → row (s .phase) (heardOther b) (bids s) (noted s) ≡ owned (noted s)
   unfolding hearReading hearBid noted bids owned
   won-turn b e o = rw (bids-at-start s w e, e, eq-eqb b (s .address) o)
 

@@ -15,15 +15,16 @@ use Rattle.wire.specs.declared.part.Load.{Load}
 use Rattle.wire.specs.declared.part.Telegram.{Telegram}
 use Rattle.wire.specs.declared.symbol.Kind.the-variants.{Syn}
 use Rattle.wire.proofs.Buffer.{held-front}
-use Rattle.station.specs.Phase.{isAnswerPart, owner}
-use Rattle.station.specs.Read.{forAll}
+use Rattle.wire.specs.Part.{isAnswerPart}
+use Rattle.station.specs.Phase.{owner}
+use Rattle.station.specs.Addressed.{forAll}
 use Rattle.station.specs.Station.{ack, answering, ready}
 use Rattle.station.specs.Turn.{goes}
-use Rattle.station.specs.Judge.{handedOut, judgedTaken, judges}
-use Rattle.station.specs.Send.{taken, hearReply}
-use Rattle.station.specs.Hear.{noted, hears}
-use Rattle.station.specs.declared.phase.Part.{Part}
-use Rattle.station.specs.declared.phase.Part.the-variants.{MasterPart, AnswerPart}
+use Rattle.station.specs.Table.{handedOut, judgedTaken, judges, taken, hearReply}
+use Rattle.station.specs.Admission.{noted}
+use Rattle.station.specs.Hear.{hears}
+use Rattle.wire.specs.declared.part.Part.{Part}
+use Rattle.wire.specs.declared.part.Part.the-variants.{MasterPart, AnswerPart}
 use Rattle.station.specs.declared.phase.Attempt.{Attempt}
 use Rattle.station.specs.declared.phase.Attempt.the-variants.{First, Again}
 use Rattle.station.specs.declared.phase.Phase.{Phase}

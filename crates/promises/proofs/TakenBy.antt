@@ -5,11 +5,13 @@ use mathlib.Core.Bool.{Bool, true, false, true≢false}
 use Prim.Native.Nat.{ℕ}
 use Rattle.wire.specs.Symbol.{kindOf}
 use Rattle.wire.specs.declared.symbol.Kind.the-variants.{Syn}
-use Rattle.station.specs.Read.{forAll}
-use Rattle.station.specs.Station.{ack, bids}
-use Rattle.station.specs.Hear.{toldBySyn, hears}
-use Rattle.station.specs.declared.phase.Part.{Part}
-use Rattle.station.specs.declared.phase.Part.the-variants.{MasterPart, AnswerPart}
+use Rattle.station.specs.Addressed.{forAll}
+use Rattle.station.specs.Admission.{bids}
+use Rattle.station.specs.Station.{ack}
+use Rattle.station.proofs.AfterSyn.{toldBySyn, syn-told}
+use Rattle.station.specs.Hear.{hears}
+use Rattle.wire.specs.declared.part.Part.{Part}
+use Rattle.wire.specs.declared.part.Part.the-variants.{MasterPart, AnswerPart}
 use Rattle.station.specs.declared.phase.Attempt.{Attempt}
 use Rattle.station.specs.declared.phase.Phase.{Phase}
 use Rattle.station.specs.declared.phase.Phase.the-variants.{Silent, Reading, Sending, Awaiting, Judging, Owing, Releasing}
@@ -19,7 +21,6 @@ use Rattle.station.specs.declared.phase.Told.{Told}
 use Rattle.station.specs.declared.phase.Told.the-variants.{Silence, Owns, Taken, Failed, Free, FailedFree, Given, Answered}
 use Rattle.station.specs.declared.station.Station.{Station}
 use Rattle.station.proofs.Aa.{NoSyn, quiet, symbol, by-sound}
-use Rattle.station.proofs.AfterSyn.{syn-told}
 use Rattle.station.proofs.Moves.{Moves, takes-broadcast, awaits-answer, ends-taken, answer-taken}
 use Rattle.station.proofs.Turned.{moves-of}
 

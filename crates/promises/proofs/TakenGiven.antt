@@ -16,13 +16,14 @@ use Rattle.wire.specs.declared.part.Telegram.{Telegram}
 use Rattle.wire.specs.declared.symbol.Kind.the-variants.{Syn}
 use Rattle.wire.proofs.Symbols.{telegram-fits}
 use Rattle.station.specs.Phase.{owner}
-use Rattle.station.specs.Read.{forAll, isOwn}
+use Rattle.station.specs.Addressed.{forAll, isOwn}
 use Rattle.station.specs.Station.{ack, answering, ready}
 use Rattle.station.specs.Turn.{goes}
-use Rattle.station.specs.Send.{left, disturbed, sent, hearOwn}
-use Rattle.station.specs.Hear.{noted, hears}
-use Rattle.station.specs.declared.phase.Part.{Part}
-use Rattle.station.specs.declared.phase.Part.the-variants.{MasterPart}
+use Rattle.station.specs.Table.{left, sent, hearOwn}
+use Rattle.station.specs.Admission.{noted}
+use Rattle.station.specs.Hear.{hears}
+use Rattle.wire.specs.declared.part.Part.{Part}
+use Rattle.wire.specs.declared.part.Part.the-variants.{MasterPart}
 use Rattle.station.specs.declared.phase.Attempt.{Attempt}
 use Rattle.station.specs.declared.phase.Phase.{Phase}
 use Rattle.station.specs.declared.phase.Phase.the-variants.{Sending, Awaiting}
@@ -59,7 +60,7 @@ noted-out s = refl
 module _ (x : Station) (b : ℕ) (t : Telegram) (xs : List ℕ) (y : ℕ) (n : Attempt) (o : x .out ≡ holding (telegramForm t))
     (r : length (telegramForm t) ≤ room) where
   last-symbol : (ys : List ℕ) → telegramForm t ≡ xs ++ (y ∷ ys) → hearOwn x b (length xs) MasterPart n .told ≡ Taken → (y ≡ b) × (ys ≡ [])
-  unfolding hearOwn disturbed goes
+  unfolding hearOwn goes
   last-symbol ys f e = go (eqb y b) refl ys f (ap isTaken (rw (due-is x (telegramForm t) xs y ys f o r) at e))
     where
       go : (q : Bool) → eqb y b ≡ q → (ys : List ℕ) → telegramForm t ≡ xs ++ (y ∷ ys)

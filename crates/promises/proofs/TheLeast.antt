@@ -14,7 +14,8 @@ use Rattle.address.specs.declared.Rank.{Rank}
 use Rattle.address.specs.declared.Rank.the-variants.{Of, Nobody}
 use Rattle.address.proofs.Masters.{master-exactly-when-ranked}
 use Rattle.address.proofs.Ranks.{ranks-distinct}
-use Rattle.station.specs.Station.{syn, bids}
+use Rattle.station.specs.Admission.{bids}
+use Rattle.station.specs.Station.{syn}
 use Rattle.station.specs.declared.phase.Sound.the-variants.{Symbol}
 use Rattle.bus.specs.Bus.{attachedTo}
 use Rattle.bus.specs.declared.bus.Bus.{Bus}

@@ -13,7 +13,8 @@ use Rattle.address.specs.Half.{lowHalf, highHalf}
 use Rattle.address.specs.Master.{isMaster}
 use Rattle.address.proofs.Masters.{master-exactly-when-ranked}
 use Rattle.station.specs.Hear.{hears}
-use Rattle.station.specs.Station.{syn, ready, bids}
+use Rattle.station.specs.Admission.{bids}
+use Rattle.station.specs.Station.{syn, ready}
 use Rattle.station.specs.declared.phase.Sound.{Sound}
 use Rattle.station.specs.declared.phase.Sound.the-variants.{Quiet, Symbol}
 use Rattle.station.specs.declared.station.Station.{Station}

@@ -13,10 +13,10 @@ use Rattle.wire.specs.declared.form.Wire.{Wire}
 use Rattle.wire.specs.declared.part.Telegram.{Telegram}
 use Rattle.wire.specs.declared.reader.Cursor.{Cursor}
 use Rattle.wire.proofs.Reached.{Reached}
-use Rattle.station.specs.Phase.{isMasterPart}
-use Rattle.station.specs.Read.{forAll}
+use Rattle.wire.specs.Part.{isMasterPart}
+use Rattle.station.specs.Addressed.{forAll}
 use Rattle.station.specs.Station.{nak}
-use Rattle.station.specs.declared.phase.Part.the-variants.{MasterPart}
+use Rattle.wire.specs.declared.part.Part.the-variants.{MasterPart}
 use Rattle.station.specs.declared.phase.Attempt.{Attempt}
 use Rattle.station.specs.declared.phase.Attempt.the-variants.{First, Again}
 use Rattle.station.specs.declared.phase.Phase.{Phase}

@@ -9,8 +9,10 @@ use native.Mathlib.Omega.{arith}
 use Rattle.address.specs.Master.{isMaster}
 use Rattle.wire.specs.Form.{headOf, bytesOf, telegramForm, answerForm}
 use Rattle.wire.specs.Load.{loadOf}
-use Rattle.wire.specs.Reader.{masterStart, answerStart, withLoad}
-use Rattle.wire.specs.Reading.{Sixteen, readAll, Usable, Message, Which, master, answer, startOf, before, formOf, readInto, If-master}
+use Rattle.wire.specs.Reader.{masterStart, answerStart, startOf, withLoad}
+use Rattle.wire.specs.Reading.{Sixteen, readAll, Usable, Message, GivesBack, before, formOf, readInto, If-master}
+use Rattle.wire.specs.declared.part.Part.{Part}
+use Rattle.wire.specs.declared.part.Part.the-variants.{MasterPart, AnswerPart}
 use Rattle.wire.specs.declared.part.Telegram.{Telegram}
 use Rattle.wire.specs.declared.reader.Outcome.the-variants.{Whole}
 use Rattle.wire.proofs.Fitting.{load-sixteen, load-carries}
@@ -24,7 +26,7 @@ use Rattle.bus.proofs.DoneChanges.{queue-done}
 use Rattle.bus.proofs.Reflects.{first-holds}
 use Rattle.bus.proofs.RefusedQueue as Q
 use Rattle.bus.proofs.RefusedReply as R
-use Rattle.promises.specs.Accepted.{telegramOf, GivesBack}
+use Rattle.promises.specs.Accepted.{telegramOf}
 use Rattle.promises.specs.Calls.{queue, reply, Reachable}
 use Rattle.promises.specs.Fit.{Fit}
 use Rattle.promises.specs.Slots.{verdictOn}
@@ -84,11 +86,11 @@ module _ (b : Bus) (a pb sb : ℕ) (bytes : List ℕ) (d : verdictOn b (reply a 
 -- ---- one law for master part and answer
 
 -- what is read has the load of the message, part or answer
-same-load : (w : Which) (p t : Telegram) → readInto w p t .load ≡ t .load
-same-load master p t = refl
-same-load answer p t = refl
+same-load : (w : Part) (p t : Telegram) → readInto w p t .load ≡ t .load
+same-load MasterPart p t = refl
+same-load AnswerPart p t = refl
 
-module _ (w : Which) (t p : Telegram) (array : Sixteen (p .load)) (bytes : List ℕ) (all : bytesOf (t .load) ≡ bytes) where
+module _ (w : Part) (t p : Telegram) (array : Sixteen (p .load)) (bytes : List ℕ) (all : bytesOf (t .load) ≡ bytes) where
   -- `read-back`, with the bytes that the load was made of
   gives-back : If-master w (Message t) → Sixteen (t .load) → (left : List ℕ)
       → GivesBack (headOf (readInto w p t)) bytes left (readAll (startOf w) p (formOf w t ++ left))
@@ -122,7 +124,7 @@ pub queued-read-back : {b : Bus}
     → GivesBack (qq ∷ zz ∷ pb ∷ sb ∷ []) bytes left (readAll masterStart p (telegramForm (telegramOf qq zz pb sb bytes) ++ left))
 unfolding telegramForm
 queued-read-back {b} r qq zz pb sb bytes d p array left =
-    gives-back master (telegramOf qq zz pb sb bytes) p array bytes (queue-carries b qq zz pb sb bytes d)
+    gives-back MasterPart (telegramOf qq zz pb sb bytes) p array bytes (queue-carries b qq zz pb sb bytes d)
     (queue-message b qq zz pb sb bytes d (reachable-fit r)) (load-sixteen bytes) left
 
 -- and no other symbols are read as this message
@@ -147,7 +149,7 @@ pub queued-one-form :
     → ss ≡ telegramForm (telegramOf qq zz pb sb bytes) ++ left
 unfolding telegramForm
 queued-one-form b qq zz pb sb bytes d p array ss left e h f r =
-    this-form master (telegramOf qq zz pb sb bytes) p array bytes (queue-carries b qq zz pb sb bytes d) ss left e h f r
+    this-form MasterPart (telegramOf qq zz pb sb bytes) p array bytes (queue-carries b qq zz pb sb bytes d) ss left e h f r
 
 -- what a reply call accepts is read back from its wire form
 pub replied-read-back :
@@ -163,7 +165,7 @@ pub replied-read-back :
     → GivesBack (headOf p) bytes left (readAll answerStart p (answerForm (loadOf bytes) ++ left))
 unfolding answerForm
 replied-read-back b a pb sb bytes d p array left =
-    gives-back answer (withLoad p (loadOf bytes)) p array bytes (reply-carries b a pb sb bytes d) tt (load-sixteen bytes) left
+    gives-back AnswerPart (withLoad p (loadOf bytes)) p array bytes (reply-carries b a pb sb bytes d) tt (load-sixteen bytes) left
 
 -- and no other symbols are read as this answer
 pub replied-one-form :
@@ -185,4 +187,4 @@ pub replied-one-form :
     → ss ≡ answerForm (loadOf bytes) ++ left
 unfolding answerForm
 replied-one-form b a pb sb bytes d p array ss left e f r =
-    this-form answer (withLoad p (loadOf bytes)) p array bytes (reply-carries b a pb sb bytes d) ss left e refl f r
+    this-form AnswerPart (withLoad p (loadOf bytes)) p array bytes (reply-carries b a pb sb bytes d) ss left e refl f r

@@ -11,7 +11,8 @@ use lib.ListN.{length, getD, take}
 use Rattle.address.specs.Half.{lowHalf, highHalf}
 use Rattle.address.specs.Master.{isMaster}
 use Rattle.station.specs.Hear.{hears}
-use Rattle.station.specs.Station.{ready, bids, says}
+use Rattle.station.specs.Admission.{bids}
+use Rattle.station.specs.Station.{ready, says}
 use Rattle.station.specs.declared.phase.Sound.{Sound}
 use Rattle.station.specs.declared.phase.Sound.the-variants.{Quiet, Symbol}
 use Rattle.station.specs.declared.station.Station.{Station}

@@ -4,7 +4,7 @@ use mathlib.Core.Bool.{true}
 use Prim.Native.Nat.{ℕ, _<_}
 use lib.ListN.{length}
 use Rattle.address.specs.Master.{isMaster}
-use Rattle.station.specs.Read.{isOwn}
+use Rattle.station.specs.Addressed.{isOwn}
 use Rattle.station.specs.declared.station.Station.{Station}
 use Rattle.bus.specs.Bus.{seats, attachedTo, turnAt}
 use Rattle.bus.specs.declared.bus.Bus.{Bus}

@@ -6,12 +6,11 @@ use mathlib.Core.List.{List, [], _∷_, _++_}
 use Prim.Native.Nat.{ℕ}
 use lib.Dec.{eqb}
 use Rattle.wire.specs.Form.{telegramForm, answerForm}
+use Rattle.wire.specs.Part.{isMasterPart}
 use Rattle.wire.specs.Reading.{Message}
 use Rattle.wire.specs.declared.part.Telegram.{Telegram}
-use Rattle.station.specs.Read.{forAll}
+use Rattle.station.specs.Addressed.{forAll}
 use Rattle.station.specs.Station.{syn, ack, nak}
-use Rattle.station.specs.declared.phase.Part.{Part}
-use Rattle.station.specs.declared.phase.Part.the-variants.{MasterPart, AnswerPart}
 use Rattle.station.specs.declared.phase.Attempt.{Attempt}
 use Rattle.station.specs.declared.phase.Attempt.the-variants.{First, Again}
 use Rattle.station.specs.declared.phase.Phase.{Phase}
@@ -31,18 +30,13 @@ abbrev pub isFirst : Attempt → Bool
 isFirst First = true
 isFirst Again = false
 
--- of who awaits an acknowledgement, only the sender of a master part is to read what comes next
-abbrev pub isOwners : Part → Bool
-isOwners MasterPart = true
-isOwners AnswerPart = false
-
 -- a symbol with which a reading begins, from the next symbol on: AA for every station; FF the first time for who judges the
 -- part that it has read; 00 for the owner, to which the answer comes next
 abbrev pub beginsIn : Phase → ℕ → Bool
 beginsIn Silent b = false
 beginsIn (Reading c p a) b = false
 beginsIn (Sending at p a) b = false
-beginsIn (Awaiting p a) b = cond (isOwners p) (eqb b ack) false
+beginsIn (Awaiting p a) b = cond (isMasterPart p) (eqb b ack) false
 beginsIn (Judging p a matched k) b = cond (isFirst a) (eqb b nak) false
 beginsIn Owing b = false
 beginsIn Releasing b = false

@@ -8,7 +8,7 @@ use Rattle.wire.specs.Form.{bytesOf, answerForm, heldBy}
 use Rattle.wire.specs.Reading.{SameMessage}
 use Rattle.wire.specs.declared.part.Load.{Load}
 use Rattle.wire.specs.declared.part.Telegram.{Telegram}
-use Rattle.station.specs.Read.{forAll, isOwn}
+use Rattle.station.specs.Addressed.{forAll, isOwn}
 use Rattle.station.specs.declared.phase.Told.the-variants.{Given, Answered}
 use Rattle.station.specs.declared.station.Turn.{Turn}
 use Rattle.bus.specs.declared.bus.Bus.{Bus}

@@ -3,7 +3,7 @@ use mathlib.Core.Path.{_≡_, refl}
 use mathlib.Core.List.{List, [], _∷_, _++_}
 use Prim.Native.Nat.{ℕ}
 use Rattle.address.specs.Half as addressHalf
-use Rattle.address.specs.Kind as addressKind
+use Rattle.address.specs.Role as addressRole
 use Rattle.address.specs.Master as addressMaster
 use Rattle.bus.specs.Attach as busAttach
 use Rattle.bus.specs.Bus as busBus
@@ -20,14 +20,14 @@ use Rattle.scenario.specs.Form as scenarioForm
 use Rattle.scenario.specs.Lines as scenarioLines
 use Rattle.scenario.specs.Output as scenarioOutput
 use Rattle.scenario.specs.Pen as scenarioPen
+use Rattle.station.specs.Addressed as stationAddressed
+use Rattle.station.specs.Admission as stationAdmission
 use Rattle.station.specs.Events as stationEvents
 use Rattle.station.specs.Hear as stationHear
-use Rattle.station.specs.Judge as stationJudge
 use Rattle.station.specs.Outbox as stationOutbox
-use Rattle.station.specs.Read as stationRead
 use Rattle.station.specs.Replies as stationReplies
-use Rattle.station.specs.Send as stationSend
 use Rattle.station.specs.Station as stationStation
+use Rattle.station.specs.Table as stationTable
 use Rattle.station.specs.Turn as stationTurn
 use Rattle.wire.specs.Form as wireForm
 use Rattle.wire.specs.Load as wireLoad
@@ -64,5 +64,5 @@ sampleOutput =
 
 -- every definition on the way from the input to the lines is unfolded, and the two sides are the same bytes
 pub sample : scenarioOutput.output sampleInput ≡ sampleOutput
-unfolding addressHalf.halfIndex addressHalf.classOf addressHalf.subOf addressKind.kindOf addressMaster.isMaster addressMaster.slaveOf addressMaster.rankOf addressMaster.masterAt busAttach.noSuchAddress busAttach.occupied busAttach.newcomer busAttach.takesSeat busAttach.attaches busBus.poweredOn busBus.attachedTo busBus.turnAt busBus.withTurn busBus.refusedBy busBus.done busEvents.events busFind.slaveAddress busFind.isMasterAt busFind.firstOf busFind.thereIs busQueue.unusable busQueue.noTarget busQueue.noCommand busQueue.holds busQueue.queuesTelegram busQueue.queuesFrom busQueue.queues busReply.writes busReply.repliesFrom busReply.replies busSlot.generatorSays busSlot.spoken busSlot.slotHeard busSlot.slotRun crcCrc.timesX crcCrc.timesXⁿ crcCrc.crcStep crcCrc.crcFrom crcCrc.crcOf lawsFirst.firstFrom scenarioApply.bytesFrom scenarioApply.applied scenarioField.byteAt scenarioField.pairAt scenarioField.valueOf scenarioField.fieldAt scenarioForm.formFrom scenarioForm.formOf scenarioLines.hexesText scenarioLines.beginText scenarioLines.lineText scenarioLines.textOf scenarioLines.slotText scenarioLines.endText scenarioOutput.ran scenarioOutput.printedFrom scenarioOutput.output scenarioPen.hexDigit scenarioPen.hexText scenarioPen.placesOf scenarioPen.digitAt scenarioPen.digitsFrom scenarioPen.decimalText stationEvents.tells stationHear.admits stationHear.restarted stationHear.hearSyn stationHear.hearQuiet stationHear.noted stationHear.hearReading stationHear.hearSymbol stationHear.hears stationJudge.handedOut stationJudge.judgedTaken stationJudge.readAgain stationJudge.judges stationOutbox.noneHeld stationOutbox.heldIn stationOutbox.waiting stationOutbox.accepted stationOutbox.oldestOf stationOutbox.dropped stationRead.forAll stationRead.answered stationRead.isOwn stationRead.unread stationRead.whole stationRead.addressed stationRead.readOn stationRead.reads stationReplies.noEntries stationReplies.isFor stationReplies.countIn stationReplies.entryOf stationReplies.entryAt stationReplies.withEntry stationReplies.added stationReplies.written stationReplies.answerFor stationSend.left stationSend.released stationSend.disturbed stationSend.failed stationSend.owned stationSend.withdrawn stationSend.hearBid stationSend.sentWhole stationSend.sent stationSend.hearOwn stationSend.taken stationSend.refused stationSend.hearReply stationStation.fresh stationStation.answering stationStation.ready stationStation.bids stationStation.sayBid stationStation.due stationStation.acknowledgement stationStation.says wireForm.covered wireForm.form wireForm.countOf wireForm.telegramForm wireForm.answerForm wireForm.holding wireForm.appended wireLoad.fitting wireLoad.loadOf wirePair.expandOne wirePair.expand wirePair.undoFirst wirePair.undoSecond wirePair.undo wireReader.masterStart wireReader.answerStart wireReader.ended wireReader.more wireReader.onward wireReader.placeAfter wireReader.readQq wireReader.readNn wireReader.readByte wireReader.readData wireReader.readCrc wireReader.readEscape wireReader.readOther wireReader.readOne wireSymbol.kindOf stationTurn.goes
+unfolding addressHalf.halfIndex addressHalf.classOf addressHalf.subOf addressRole.roleOf addressMaster.isMaster addressMaster.slaveOf addressMaster.rankOf addressMaster.masterAt busAttach.noSuchAddress busAttach.occupied busAttach.newcomer busAttach.takesSeat busAttach.attaches busBus.poweredOn busBus.attachedTo busBus.turnAt busBus.withTurn busBus.refusedBy busBus.done busEvents.events busFind.slaveAddress busFind.isMasterAt busFind.firstOf busFind.thereIs busQueue.unusable busQueue.noTarget busQueue.noCommand busQueue.holds busQueue.queuesTelegram busQueue.queuesFrom busQueue.queues busReply.writes busReply.repliesFrom busReply.replies busSlot.generatorSays busSlot.spoken busSlot.slotHeard busSlot.slotRun crcCrc.timesX crcCrc.timesXⁿ crcCrc.crcStep crcCrc.crcFrom crcCrc.crcOf lawsFirst.firstFrom scenarioApply.bytesFrom scenarioApply.applied scenarioField.byteAt scenarioField.pairAt scenarioField.valueOf scenarioField.fieldAt scenarioForm.formFrom scenarioForm.formOf scenarioLines.hexesText scenarioLines.beginText scenarioLines.lineText scenarioLines.textOf scenarioLines.slotText scenarioLines.endText scenarioOutput.ran scenarioOutput.printedFrom scenarioOutput.output scenarioPen.hexDigit scenarioPen.hexText scenarioPen.placesOf scenarioPen.digitAt scenarioPen.digitsFrom scenarioPen.decimalText wireForm.covered wireForm.form wireForm.countOf wireForm.telegramForm wireForm.answerForm wireForm.holding wireForm.appended wireLoad.fitting wireLoad.loadOf wirePair.expandOne wirePair.expand wirePair.undoFirst wirePair.undoSecond wirePair.undo stationAddressed.answered stationAddressed.forAll stationAddressed.isOwn stationAdmission.admits stationAdmission.bids stationAdmission.noted stationAdmission.owned stationAdmission.restarted stationAdmission.sayBid stationAdmission.withdrawn stationEvents.tells stationHear.cut stationHear.hearQuiet stationHear.hearSymbol stationHear.hearSyn stationHear.hears stationOutbox.accepted stationOutbox.dropped stationOutbox.heldIn stationOutbox.noneHeld stationOutbox.oldestOf stationOutbox.waiting stationReplies.added stationReplies.answerFor stationReplies.countIn stationReplies.entryAt stationReplies.entryOf stationReplies.isFor stationReplies.noEntries stationReplies.withEntry stationReplies.written stationStation.acknowledgement stationStation.answering stationStation.due stationStation.fresh stationStation.ready stationStation.says stationTable.addressed stationTable.handedOut stationTable.hearBid stationTable.hearOwn stationTable.hearReading stationTable.hearReply stationTable.judgedTaken stationTable.judges stationTable.left stationTable.readOn stationTable.reads stationTable.released stationTable.sent stationTable.sentWhole stationTable.taken stationTable.whole stationTurn.goes wireReader.answerStart wireReader.ended wireReader.masterStart wireReader.more wireReader.onward wireReader.placeAfter wireReader.readByte wireReader.readCrc wireReader.readData wireReader.readHead wireReader.readNn wireReader.readOne wireReader.readPlace wireReader.readQq wireSymbol.kindOf
 sample = refl

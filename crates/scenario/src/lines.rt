@@ -41,8 +41,8 @@ fn failure_number(f: Failure) -> u32
 {
     match f {
         Failure::Disturbed => 1,
-        Failure::NoAcknowledgement => 2,
-        Failure::TwiceRefused => 3,
+        Failure::WrongAck => 2,
+        Failure::TwiceNak => 3,
         Failure::SynHeard => 4,
         Failure::PairBroken => 5,
     }

@@ -10,7 +10,7 @@ use Rattle.wire.specs.declared.part.Telegram.{Telegram}
 use Rattle.wire.specs.declared.reader.Cursor.{Cursor}
 use Rattle.wire.specs.declared.symbol.Kind.{Kind}
 use Rattle.wire.specs.declared.symbol.Kind.the-variants.{Syn}
-use Rattle.station.specs.declared.phase.Part.the-variants.{MasterPart, AnswerPart}
+use Rattle.wire.specs.declared.part.Part.the-variants.{MasterPart, AnswerPart}
 use Rattle.station.specs.declared.phase.Attempt.{Attempt}
 use Rattle.station.specs.declared.phase.Attempt.the-variants.{First}
 use Rattle.station.specs.declared.phase.Phase.{Phase}
@@ -26,8 +26,10 @@ use Rattle.station.specs.declared.station.Turn.{Turn}
 use Rattle.station.specs.Events.{Event, failed, event, freeEvent, eventsAs, tells}
 use Rattle.station.specs.Outbox.{dropped}
 use Rattle.station.specs.Phase.{owner}
-use Rattle.station.specs.Send.{left}
-use Rattle.station.specs.Hear.{admits, restarted, toldBySyn, hearSyn, hearsAs, hears}
+use Rattle.station.specs.Table.{left, released, heardAA, row}
+use Rattle.station.specs.Turn.{goes}
+use Rattle.station.specs.Admission.{admits, restarted, bids}
+use Rattle.station.specs.Hear.{cut, hearSyn, hearsAs, hears}
 use Rattle.station.proofs.Aa.{IsSyn, aa}
 
 -- what AA makes of a station
@@ -70,45 +72,78 @@ turn : (s : Station) (b : ℕ) → kindOf b ≡ Syn → hears s (Symbol b) ≡ h
 unfolding hears
 turn s b e = ap (λ (k : Kind). hearsAs k s b) e
 
--- whatever becomes of an owner and of the others
-by-owner : (P : Turn → Type 0) (o : Bool) {t u : Turn} → (o ≡ true → P t) → (o ≡ false → P u) → P (cond o t u)
-by-owner P true own other = own refl
-by-owner P false own other = other refl
+-- what AA tells: sending a part, failed 1; awaiting its acknowledgement, or awaiting, reading or judging an answer, failed 4
+abbrev pub toldBySyn : Phase → Told
+toldBySyn Silent = Silence
+toldBySyn (Reading c MasterPart a) = Silence
+toldBySyn (Reading c AnswerPart a) = FailedFree SynHeard
+toldBySyn (Sending at MasterPart a) = FailedFree Disturbed
+toldBySyn (Sending at AnswerPart a) = Failed Disturbed
+toldBySyn (Awaiting MasterPart a) = FailedFree SynHeard
+toldBySyn (Awaiting AnswerPart a) = Failed SynHeard
+toldBySyn (Judging MasterPart a m k) = Silence
+toldBySyn (Judging AnswerPart a m k) = FailedFree SynHeard
+toldBySyn Owing = Silence
+toldBySyn Releasing = Free
+
+-- the turn that AA cuts short, before the station reads from the start
+record Cut (s : Station) (p : Phase) (t : Turn) : Type 0 where
+  told : t .told ≡ toldBySyn p
+  admits-same : admits (t .station) ≡ admits s
+  address : t .station .address ≡ s .address
+  master : t .station .master ≡ s .master
+  replies : t .station .replies ≡ s .replies
+  part : t .station .part ≡ s .part
+  outbox : t .station .outbox ≡ cond (owner p) (dropped (s .outbox)) (s .outbox)
+
+stays : (s : Station) {p : Phase} (q : Phase) (t : Told) → t ≡ toldBySyn p → owner p ≡ false → Cut s p (goes s q t)
+unfolding goes admits
+stays s q t e o =
+    record { told = e; admits-same = refl; address = refl; master = refl; replies = refl; part = refl; outbox = rw o }
+
+leaves : (s : Station) {p : Phase} {t : Told} → t ≡ toldBySyn p → owner p ≡ true → Cut s p (record { station = left s; told = t })
+unfolding left admits
+leaves s e o =
+    record { told = e; admits-same = refl; address = refl; master = refl; replies = refl; part = refl; outbox = rw o }
+
+cut-row : (s : Station) (p : Phase) (bid : Bool) → Cut s p (row p heardAA bid s)
+unfolding released
+cut-row s Silent bid = stays s Silent Silence refl refl
+cut-row s (Reading c MasterPart a) bid = stays s Silent Silence refl refl
+cut-row s (Reading c AnswerPart a) bid = leaves s refl refl
+cut-row s (Sending at MasterPart a) bid = leaves s refl refl
+cut-row s (Sending at AnswerPart a) bid = stays s Silent (Failed Disturbed) refl refl
+cut-row s (Awaiting MasterPart a) bid = leaves s refl refl
+cut-row s (Awaiting AnswerPart a) bid = stays s Silent (Failed SynHeard) refl refl
+cut-row s (Judging MasterPart a m k) bid = stays s Silent Silence refl refl
+cut-row s (Judging AnswerPart a m k) bid = leaves s refl refl
+cut-row s Owing bid = stays s Owing Silence refl refl
+cut-row s Releasing bid = leaves s refl refl
+
+cut-of : (s : Station) → Cut s (s .phase) (cut s)
+unfolding cut
+cut-of s = cut-row s (s .phase) (bids s)
 
 told-of : (s : Station) → hearSyn s .told ≡ toldBySyn (s .phase)
 unfolding hearSyn
-told-of s = by-owner (λ (t : Turn). t .told ≡ toldBySyn (s .phase)) (owner (s .phase)) (λ _. refl) (λ _. refl)
+told-of s = cut-of s .told
 
 after-of : (s : Station) → AfterSyn s (hearSyn s .station)
-unfolding hearSyn restarted left admits
+unfolding hearSyn restarted
 after-of s =
-    by-owner (λ (t : Turn). AfterSyn s (t .station)) (owner (s .phase))
-    (λ e.
+    let w = cut-of s in
     record {
       phase = refl;
       owns-not = refl;
-      admitted = refl;
+      admitted = w .admits-same;
       marked = refl;
       since = refl;
-      address = refl;
-      master = refl;
-      replies = refl;
-      part = refl;
-      outbox = rw e;
-    })
-    (λ e.
-    record {
-      phase = refl;
-      owns-not = refl;
-      admitted = refl;
-      marked = refl;
-      since = refl;
-      address = refl;
-      master = refl;
-      replies = refl;
-      part = refl;
-      outbox = rw e;
-    })
+      address = w .address;
+      master = w .master;
+      replies = w .replies;
+      part = w .part;
+      outbox = w .outbox;
+    }
 
 -- after an AA every station reads from the start; it owns nothing, marks go out, and `admits` says who may bid
 pub after-syn : (s : Station) {h : Sound} → IsSyn h → AfterSyn s (hears s h .station)

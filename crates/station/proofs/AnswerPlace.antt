@@ -7,7 +7,7 @@ use native.Mathlib.Omega.{arith}
 use Rattle.wire.specs.Reader.{answerStart}
 use Rattle.wire.specs.declared.part.Telegram.{Telegram}
 use Rattle.wire.specs.declared.reader.Cursor.{Cursor}
-use Rattle.station.specs.declared.phase.Part.the-variants.{MasterPart, AnswerPart}
+use Rattle.wire.specs.declared.part.Part.the-variants.{MasterPart, AnswerPart}
 use Rattle.station.specs.declared.phase.Attempt.{Attempt}
 use Rattle.station.specs.declared.phase.Attempt.the-variants.{First}
 use Rattle.station.specs.declared.phase.Phase.{Phase}
@@ -17,7 +17,8 @@ use Rattle.station.specs.declared.phase.Failure.{Failure}
 use Rattle.station.specs.declared.phase.Told.{Told}
 use Rattle.station.specs.declared.phase.Told.the-variants.{Silence, Taken, Failed}
 use Rattle.station.specs.declared.station.Station.{Station}
-use Rattle.station.specs.Station.{answering, ready, bids}
+use Rattle.station.specs.Admission.{bids}
+use Rattle.station.specs.Station.{answering, ready}
 use Rattle.station.specs.Hear.{hears}
 use Rattle.station.proofs.Aa.{NoSyn}
 use Rattle.station.proofs.Moves.{Moves, reading-waits, wins, reads-on, not-for-it, breaks-answer, reads-whole, reads-too-long, awaits-answer, ends-taken}

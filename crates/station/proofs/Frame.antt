@@ -9,7 +9,7 @@ use Rattle.address.specs.Half.{lowHalf}
 use Rattle.wire.specs.Symbol.{kindOf}
 use Rattle.wire.specs.declared.symbol.Kind.the-variants.{Syn}
 use Rattle.station.specs.declared.outbox.Outbox.{Outbox}
-use Rattle.station.specs.declared.phase.Part.the-variants.{MasterPart, AnswerPart}
+use Rattle.wire.specs.declared.part.Part.the-variants.{MasterPart, AnswerPart}
 use Rattle.station.specs.declared.phase.Phase.{Phase}
 use Rattle.station.specs.declared.phase.Phase.the-variants.{Silent, Reading, Sending, Awaiting, Judging, Owing, Releasing}
 use Rattle.station.specs.declared.phase.Sound.{Sound}
@@ -17,11 +17,11 @@ use Rattle.station.specs.declared.phase.Sound.the-variants.{Quiet, Symbo
 use Rattle.station.specs.declared.station.Station.{Station}
 use Rattle.station.specs.Outbox.{dropped}
 use Rattle.station.specs.Phase.{owner}
-use Rattle.station.specs.Send.{withdrawn}
-use Rattle.station.specs.Station.{answering, readyAt, ready, bids}
-use Rattle.station.specs.Hear.{toldBySyn, noted, hears}
+use Rattle.station.specs.Admission.{withdrawn, bids, noted}
+use Rattle.station.specs.Station.{answering, readyAt, ready}
+use Rattle.station.proofs.AfterSyn.{toldBySyn, after-syn, syn-told}
+use Rattle.station.specs.Hear.{hears}
 use Rattle.station.proofs.Aa.{IsSyn, NoSyn, quiet, symbol, by-sound}
-use Rattle.station.proofs.AfterSyn.{after-syn, syn-told}
 use Rattle.station.proofs.Turned.{outboxAfter, Enters, on-quiet, on-symbol, on-other, slot}
 
 -- who a station is, and what it answers

@@ -7,8 +7,8 @@ use native.Mathlib.Omega.{arith}
 use Rattle.wire.specs.Reader.{readOne}
 use Rattle.wire.specs.declared.reader.Cursor.{Cursor}
 use Rattle.wire.specs.declared.reader.Outcome.the-variants.{Whole}
-use Rattle.station.specs.declared.phase.Part.{Part}
-use Rattle.station.specs.declared.phase.Part.the-variants.{MasterPart, AnswerPart}
+use Rattle.wire.specs.declared.part.Part.{Part}
+use Rattle.wire.specs.declared.part.Part.the-variants.{MasterPart, AnswerPart}
 use Rattle.station.specs.declared.phase.Attempt.{Attempt}
 use Rattle.station.specs.declared.phase.Phase.{Phase}
 use Rattle.station.specs.declared.phase.Phase.the-variants.{Reading, Judging}
@@ -19,8 +19,9 @@ use Rattle.station.specs.declared.phase.Told.the-variants.{Given, Answer
 use Rattle.station.specs.declared.station.Station.{Station}
 use Rattle.station.specs.Events.{Event}
 use mathlib.Core.List.{List}
-use Rattle.station.specs.Station.{ack, bids}
-use Rattle.station.specs.Read.{forAll}
+use Rattle.station.specs.Admission.{bids}
+use Rattle.station.specs.Station.{ack}
+use Rattle.station.specs.Addressed.{forAll}
 use Rattle.station.specs.Hear.{hears}
 use Rattle.station.proofs.AfterSyn.{SynTells, syn-tells, after-syn}
 use Rattle.station.proofs.Moves.{Moves, gives-broadcast, gives-and-owes, gives, gives-answer, acknowledges, reads-whole}

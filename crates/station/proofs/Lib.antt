@@ -1,8 +1,9 @@
 pub mod Aa
-pub mod Admission
+pub mod Admitted
 pub mod AfterSyn
 pub mod AnswerPlace
 pub mod Book
+pub mod Due
 pub mod Frame
 pub mod HandedOut
 pub mod Moves

@@ -3,13 +3,13 @@
 use mathlib.Core.Path.{_≡_}
 use mathlib.Core.Bool.{Bool, true, false}
 use Prim.Native.Nat.{ℕ, _+_}
-use Rattle.wire.specs.Reader.{answerStart, readOne}
+use Rattle.wire.specs.Reader.{answerStart, readOne, startOf}
 use Rattle.wire.specs.declared.part.Telegram.{Telegram}
 use Rattle.wire.specs.declared.reader.Cursor.{Cursor}
 use Rattle.wire.specs.declared.reader.Outcome.the-variants.{More, TooLong, Whole}
 use Rattle.wire.specs.declared.reader.Place.the-variants.{Pb}
-use Rattle.station.specs.declared.phase.Part.{Part}
-use Rattle.station.specs.declared.phase.Part.the-variants.{MasterPart, AnswerPart}
+use Rattle.wire.specs.declared.part.Part.{Part}
+use Rattle.wire.specs.declared.part.Part.the-variants.{MasterPart, AnswerPart}
 use Rattle.station.specs.declared.phase.Attempt.{Attempt}
 use Rattle.station.specs.declared.phase.Attempt.the-variants.{First, Again}
 use Rattle.station.specs.declared.phase.Phase.{Phase}
@@ -21,8 +21,7 @@ use Rattle.station.specs.declared.phase.Failure.the-variants.{Disturbed}
 use Rattle.station.specs.declared.phase.Told.{Told}
 use Rattle.station.specs.declared.phase.Told.the-variants.{Silence, Owns, Taken, Failed, Free, FailedFree, Given, Answered}
 use Rattle.station.specs.Station.{ack, nak}
-use Rattle.station.specs.Read.{forAll}
-use Rattle.station.specs.Judge.{startOf}
+use Rattle.station.specs.Addressed.{forAll}
 
 -- the rows, for a station that bids or not, with its own address and the part so far
 pub data Moves (bid : Bool) (own : ℕ) (part : Telegram) : Phase → Sound → Told → Phase → Type 0 where

@@ -10,8 +10,8 @@ use Rattle.wire.specs.Reader.{masterStart, readOne}
 use Rattle.wire.specs.declared.part.Telegram.{Telegram}
 use Rattle.wire.specs.declared.reader.Cursor.{Cursor}
 use Rattle.wire.specs.declared.reader.Place.the-variants.{Pb}
-use Rattle.station.specs.declared.phase.Part.{Part}
-use Rattle.station.specs.declared.phase.Part.the-variants.{MasterPart, AnswerPart}
+use Rattle.wire.specs.declared.part.Part.{Part}
+use Rattle.wire.specs.declared.part.Part.the-variants.{MasterPart, AnswerPart}
 use Rattle.station.specs.declared.phase.Attempt.{Attempt}
 use Rattle.station.specs.declared.phase.Attempt.the-variants.{First}
 use Rattle.station.specs.declared.phase.Phase.{Phase}
@@ -24,7 +24,8 @@ use Rattle.station.specs.declared.phase.Told.the-variants.{Silence, Owns
 use Rattle.station.specs.declared.station.Station.{Station}
 use Rattle.station.specs.Events.{Event}
 use Rattle.station.specs.Phase.{owner}
-use Rattle.station.specs.Station.{answering, ready, bids}
+use Rattle.station.specs.Admission.{bids}
+use Rattle.station.specs.Station.{answering, ready}
 use Rattle.station.specs.Hear.{hears}
 use Rattle.station.proofs.Aa.{by-sound}
 use Rattle.station.proofs.AfterSyn.{SynTells, sending-owner, awaiting-owner, reading-owner, judging-owner, releasing-owner, sending-slave, awaiting-slave, silent-station, reading-station, judging-station, owing-slave, after-syn, syn-tells}

@@ -6,8 +6,8 @@ use Prim.Native.Nat.{ℕ, _+_}
 use native.Mathlib.Omega.{arith}
 use lib.Dec.{eqb, ltb}
 use Rattle.wire.specs.Pair.{undo}
-use Rattle.wire.specs.Reader.{masterStart, answerStart, ended, more, onward, placeAfter, readNn, readByte, dataAs, readData, crcAs, readCrc, escapeAt, readEscape, otherAt, readOther, readAs, readOne}
-use Rattle.wire.specs.Symbol.{kindOf}
+use Rattle.wire.specs.Reader.{masterStart, answerStart, ended, more, onward, placeAfter, readNn, readByte, dataAs, readData, crcAs, readCrc, readAt, readPlace, readAs, readOne, startOf}
+use Rattle.wire.specs.Symbol.{kindOf, isCount}
 use Rattle.wire.specs.declared.pair.Undone.{Undone}
 use Rattle.wire.specs.declared.pair.Undone.the-variants.{Byte, Opens, Broken}
 use Rattle.wire.specs.declared.part.Telegram.{Telegram}
@@ -19,8 +19,8 @@ use Rattle.wire.specs.declared.reader.Place.the-variants.{Pb, Nn, Data, Crc}
 use Rattle.wire.specs.declared.reader.Step.{Step}
 use Rattle.wire.specs.declared.symbol.Kind.{Kind}
 use Rattle.wire.specs.declared.symbol.Kind.the-variants.{Syn, Escape, Count, Plain}
-use Rattle.station.specs.declared.phase.Part.{Part}
-use Rattle.station.specs.declared.phase.Part.the-variants.{MasterPart, AnswerPart}
+use Rattle.wire.specs.declared.part.Part.{Part}
+use Rattle.wire.specs.declared.part.Part.the-variants.{MasterPart, AnswerPart}
 use Rattle.station.specs.declared.phase.Attempt.{Attempt}
 use Rattle.station.specs.declared.phase.Attempt.the-variants.{First, Again}
 use Rattle.station.specs.declared.phase.Phase.{Phase}
@@ -28,9 +28,9 @@ use Rattle.station.specs.declared.phase.Phase.the-variants.{Silent, Read
 use Rattle.station.specs.declared.phase.Sound.{Sound}
 use Rattle.station.specs.declared.phase.Told.{Told}
 use Rattle.station.specs.declared.station.Station.{Station}
-use Rattle.station.specs.Judge.{startOf}
 use Rattle.station.specs.Outbox.{heldIn}
-use Rattle.station.specs.Station.{fresh, ready, answering, bids}
+use Rattle.station.specs.Admission.{bids}
+use Rattle.station.specs.Station.{fresh, ready, answering}
 use Rattle.station.specs.Hear.{hears}
 use Rattle.station.proofs.AfterSyn.{after-syn}
 use Rattle.station.proofs.Moves.{Moves, silent-on, owing-on, reading-waits, awaiting-waits, acknowledges, leaves-released, leaves-disturbed, stops-disturbed, wins, reads-on, not-for-it, reads-in-vain, breaks-answer, gives-broadcast, reads-whole, reads-too-long, sends-on, takes-broadcast, sends-whole, awaits-answer, ends-taken, answer-taken, sends-again, ends-failed, answer-failed, gives-and-owes, gives, gives-answer, reads-again, gives-nothing, answer-lost}
@@ -103,24 +103,18 @@ module _ (c : Cursor) (t : Telegram) (b : ℕ) (w : InAnswer (c .place)) where
   crc-stays Opens = record { place = w }
   crc-stays Broken = ended-stays BrokenPair
 
-  escape-stays : {l : Place} → InAnswer l → Stays (escapeAt l c t b)
+  place-stays : (k : Kind) {l : Place} → InAnswer l → Stays (readAt l c t b k)
   unfolding readData readCrc
-  escape-stays at-nn = ended-stays TooLong
-  escape-stays (at-data {i}) = data-stays i (undo (c .opened) b)
-  escape-stays at-crc = crc-stays (undo (c .opened) b)
-
-  other-stays : (counts : Bool) {l : Place} → InAnswer l → Stays (otherAt l c t b counts)
-  unfolding readData readCrc
-  other-stays counts at-nn = nn-stays counts
-  other-stays counts (at-data {i}) = data-stays i (undo (c .opened) b)
-  other-stays counts at-crc = crc-stays (undo (c .opened) b)
+  place-stays k at-nn = nn-stays (isCount k)
+  place-stays k (at-data {i}) = data-stays i (undo (c .opened) b)
+  place-stays k at-crc = crc-stays (undo (c .opened) b)
 
   kind-stays : (k : Kind) → Stays (readAs k c t b)
-  unfolding readEscape readOther
+  unfolding readPlace
   kind-stays Syn = ended-stays Cut
-  kind-stays Escape = escape-stays w
-  kind-stays Count = other-stays true w
-  kind-stays Plain = other-stays false w
+  kind-stays Escape = place-stays Escape w
+  kind-stays Count = place-stays Count w
+  kind-stays Plain = place-stays Plain w
 
   -- an answer is read to its end from its first place on
   pub answer-goes-on : InAnswer (readOne c t b .cursor .place)

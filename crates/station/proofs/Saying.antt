@@ -5,13 +5,14 @@ use mathlib.Core.Logic.{_↔_, _≢_}
 use Prim.Native.Nat.{ℕ}
 use native.Mathlib.Omega.{arith}
 use Rattle.wire.specs.declared.reader.Cursor.{Cursor}
-use Rattle.station.specs.declared.phase.Part.{Part}
+use Rattle.wire.specs.declared.part.Part.{Part}
 use Rattle.station.specs.declared.phase.Attempt.{Attempt}
 use Rattle.station.specs.declared.phase.Phase.{Phase}
 use Rattle.station.specs.declared.phase.Phase.the-variants.{Silent, Reading, Sending, Awaiting, Judging, Owing, Releasing}
 use Rattle.station.specs.declared.phase.Sound.the-variants.{Quiet, Symbol}
 use Rattle.station.specs.declared.station.Station.{Station}
-use Rattle.station.specs.Station.{syn, ack, nak, bids, sayBid, due, acknowledgement, saysAt, says}
+use Rattle.station.specs.Admission.{bids, sayBid}
+use Rattle.station.specs.Station.{syn, ack, nak, due, acknowledgement, saysAt, says}
 
 -- by what right a station in a phase says a symbol: its bid, its part, its one acknowledgement, or the releasing SYN
 pub data SaysBy (s : Station) : Phase → ℕ → Type 0 where

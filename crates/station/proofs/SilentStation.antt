@@ -10,10 +10,11 @@ use Rattle.station.specs.declared.phase.Sound.the-variants.{Quiet}
 use Rattle.station.specs.declared.phase.Told.{Told}
 use Rattle.station.specs.declared.phase.Told.the-variants.{Silence}
 use Rattle.station.specs.declared.station.Station.{Station}
-use Rattle.station.specs.Station.{bids, ready, says}
-use Rattle.station.specs.Hear.{toldBySyn, hears}
+use Rattle.station.specs.Admission.{bids}
+use Rattle.station.specs.Station.{ready, says}
+use Rattle.station.proofs.AfterSyn.{toldBySyn, syn-told}
+use Rattle.station.specs.Hear.{hears}
 use Rattle.station.proofs.Aa.{NoSyn, by-sound}
-use Rattle.station.proofs.AfterSyn.{syn-told}
 use Rattle.station.proofs.Moves.{Moves, silent-on}
 use Rattle.station.proofs.Turned.{moves-of}
 

@@ -4,7 +4,6 @@ use mathlib.Core.Bool.{Bool, true, false, cond}
 use Prim.Native.Nat.{ℕ, _+_}
 use borrow.Author.Tests.{eqb-true, eqb-false}
 use lib.Dec.{eqb, ltb}
-use Rattle.wire.specs.Form.{room}
 use Rattle.wire.specs.Reader.{readOne}
 use Rattle.wire.specs.Symbol.{kindOf}
 use Rattle.wire.specs.declared.part.Telegram.{Telegram}
@@ -16,8 +15,8 @@ use Rattle.wire.specs.declared.reader.Place.the-variants.{Qq, Zz, Pb, Sb, Nn, D
 use Rattle.wire.specs.declared.symbol.Kind.{Kind}
 use Rattle.wire.specs.declared.symbol.Kind.the-variants.{Syn, Escape, Count, Plain}
 use Rattle.station.specs.declared.outbox.Outbox.{Outbox}
-use Rattle.station.specs.declared.phase.Part.{Part}
-use Rattle.station.specs.declared.phase.Part.the-variants.{MasterPart, AnswerPart}
+use Rattle.wire.specs.declared.part.Part.{Part}
+use Rattle.wire.specs.declared.part.Part.the-variants.{MasterPart, AnswerPart}
 use Rattle.station.specs.declared.phase.Attempt.{Attempt}
 use Rattle.station.specs.declared.phase.Attempt.the-variants.{First, Again}
 use Rattle.station.specs.declared.phase.Phase.{Phase}
@@ -25,21 +24,20 @@ use Rattle.station.specs.declared.phase.Phase.the-variants.{Silent, Read
 use Rattle.station.specs.declared.phase.Sound.{Sound}
 use Rattle.station.specs.declared.phase.Sound.the-variants.{Quiet, Symbol}
 use Rattle.station.specs.declared.phase.Failure.{Failure}
-use Rattle.station.specs.declared.phase.Failure.the-variants.{NoAcknowledgement, TwiceRefused, SynHeard, PairBroken}
+use Rattle.station.specs.declared.phase.Failure.the-variants.{Disturbed, WrongAck, TwiceNak, PairBroken}
 use Rattle.station.specs.declared.phase.Told.{Told}
 use Rattle.station.specs.declared.phase.Told.the-variants.{Silence, Owns, Taken, Failed, Free, FailedFree, Given, Answered}
 use Rattle.station.specs.declared.station.Station.{Station}
 use Rattle.station.specs.declared.station.Turn.{Turn}
 use Rattle.station.specs.Outbox.{dropped}
-use Rattle.station.specs.Station.{ack, nak, due, bids}
+use Rattle.station.specs.Admission.{bids, owned, withdrawn, overNow, noted}
+use Rattle.station.specs.Station.{ack, nak, due}
 use Rattle.station.specs.Turn.{goes, withPart}
-use Rattle.station.specs.Read.{forAll, answered, isOwn, unread, whole, addressed, readOn, readOnAt, readsAs, reads}
-use Rattle.station.specs.Judge.{handedOut, judgedTaken, readAgain, judges}
-use Rattle.station.specs.Send.{left, released, disturbed, failed, owned, withdrawn, hearBid, sentWhole, sent, hearOwnAs, hearOwn, taken, refused, hearReply}
-use Rattle.station.specs.Hear.{overNow, noted, hearQuietAt, hearSymbolAt, hearsAs, hearQuiet, hearReading, hearSymbol, hears}
+use Rattle.station.specs.Addressed.{forAll, answered, isOwn}
+use Rattle.station.specs.Table.{readerFails, whole, addressed, readOn, readOnAt, readsAs, reads, handedOut, judgedTaken, readAgain, judges, left, released, senderFails, hearBid, sentWhole, sent, hearOwnAs, hearOwn, taken, nakHeard, hearReply, hearReading, heardNothing, heardOther, row, ownerFails}
+use Rattle.station.specs.Hear.{hearsAs, hearQuiet, hearSymbol, hears}
 use Rattle.station.proofs.Aa.{NoSyn, quiet, symbol}
-use Rattle.station.proofs.Moves.{Moves}
-use Rattle.station.proofs.Moves.{silent-on, owing-on, reading-waits, awaiting-waits, acknowledges, leaves-released, leaves-disturbed, stops-disturbed, wins, reads-on, not-for-it, reads-in-vain, breaks-answer, gives-broadcast, reads-whole, reads-too-long, sends-on, takes-broadcast, sends-whole, awaits-answer, ends-taken, answer-taken, sends-again, ends-failed, answer-failed, gives-and-owes, gives, gives-answer, reads-again, gives-nothing, answer-lost}
+use Rattle.station.proofs.Moves.{Moves, silent-on, owing-on, reading-waits, awaiting-waits, acknowledges, leaves-released, leaves-disturbed, stops-disturbed, wins, reads-on, not-for-it, reads-in-vain, breaks-answer, gives-broadcast, reads-whole, reads-too-long, sends-on, takes-broadcast, sends-whole, awaits-answer, ends-taken, answer-taken, sends-again, ends-failed, answer-failed, gives-and-owes, gives, gives-answer, reads-again, gives-nothing, answer-lost}
 
 -- an owner that leaves drops its telegram, and nothing else changes the outbox
 abbrev pub outboxAfter : Told → Outbox → Outbox
@@ -51,6 +49,17 @@ outboxAfter Free o = dropped o
 outboxAfter (FailedFree f) o = dropped o
 outboxAfter Given o = o
 outboxAfter Answered o = o
+
+-- failed 2, 3 and 5: an owner sends AA in the next slot
+data SendsAa : Failure → Type 0 where
+  after-2 : SendsAa WrongAck
+  after-3 : SendsAa TwiceNak
+  after-5 : SendsAa PairBroken
+
+owner-sends-aa : (x : Station) {f : Failure} → SendsAa f → ownerFails f x ≡ goes x Releasing (Failed f)
+owner-sends-aa x after-2 = refl
+owner-sends-aa x after-3 = refl
+owner-sends-aa x after-5 = refl
 
 -- a turn from the phase p, on the sound h: a row, and what stays of the station x
 pub record Turned (bid : Bool) (part : Telegram) (x : Station) (p : Phase) (h : Sound) (t : Turn) : Type 0 where
@@ -93,14 +102,12 @@ module _ {bid : Bool} {part : Telegram} where
         outbox = w .outbox;
       }
 
-  disturbed-turned : (x : Station) (i : ℕ) (p : Part) (a : Attempt) (h : Sound) → Turned bid part x (Sending i p a) h (disturbed x p)
-  unfolding disturbed
+  disturbed-turned : (x : Station) (i : ℕ) (p : Part) (a : Attempt) (h : Sound) → Turned bid part x (Sending i p a) h (senderFails p Disturbed x)
   disturbed-turned x i MasterPart a h = leaving leaves-disturbed refl
   disturbed-turned x i AnswerPart a h = going stops-disturbed refl
 
-  failed-turned : (x : Station) (p : Part) (a : Attempt) (b : ℕ) (f : Failure) → Turned bid part x (Awaiting p a) (Symbol b) (failed x p f)
-  unfolding failed
-  failed-turned x MasterPart a b f = going ends-failed refl
+  failed-turned : (x : Station) (p : Part) (a : Attempt) (b : ℕ) {f : Failure} → SendsAa f → Turned bid part x (Awaiting p a) (Symbol b) (senderFails p f x)
+  failed-turned x MasterPart a b f = rw (owner-sends-aa x f) (going ends-failed refl)
   failed-turned x AnswerPart a b f = going answer-failed refl
 
   released-turned : (x : Station) (h : Sound) → Turned bid part x Releasing h (released x)
@@ -126,10 +133,9 @@ module _ {bid : Bool} {part : Telegram} where
     long-turned AnswerPart e = going (reads-too-long e) refl
     long-turned MasterPart e = tested (forAll (x .part .zz)) (λ _. going reads-in-vain refl) (λ _. going (reads-too-long e) refl)
 
-    vain-turned : (p : Part) (f : Failure) → Turned bid part x (Reading c p a) (Symbol b) (unread x p f)
-    unfolding unread
-    vain-turned MasterPart f = going reads-in-vain refl
-    vain-turned AnswerPart f = going breaks-answer refl
+    vain-turned : (p : Part) → Turned bid part x (Reading c p a) (Symbol b) (readerFails p PairBroken x)
+    vain-turned MasterPart = going reads-in-vain refl
+    vain-turned AnswerPart = going breaks-answer refl
 
     on-turned : (p : Part) → readOne c part b .outcome ≡ More
         → Turned bid part x (Reading c p a) (Symbol b) (readOn x (readOne c part b .cursor) p a)
@@ -152,11 +158,11 @@ module _ {bid : Bool} {part : Telegram} where
     outcome-turned : (p : Part) (o : Outcome) → readOne c part b .outcome ≡ o → x .part ≡ readOne c part b .part
         → Turned bid part x (Reading c p a) (Symbol b) (readsAs o x (readOne c part b .cursor) p a)
     outcome-turned p More e r = on-turned p e
-    outcome-turned p Cut e r = vain-turned p SynHeard
-    outcome-turned p NoMaster e r = vain-turned p PairBroken
-    outcome-turned p Unusable e r = vain-turned p PairBroken
+    outcome-turned p Cut e r = vain-turned p
+    outcome-turned p NoMaster e r = vain-turned p
+    outcome-turned p Unusable e r = vain-turned p
     outcome-turned p TooLong e r = long-turned p e
-    outcome-turned p BrokenPair e r = vain-turned p PairBroken
+    outcome-turned p BrokenPair e r = vain-turned p
     outcome-turned p (Whole m) e r = whole-turned p m e r
 
 module _ {bid : Bool} where
@@ -175,8 +181,7 @@ module _ {bid : Bool} where
   sent-turned : (x : Station) (i : ℕ) (p : Part) (a : Attempt) (b : ℕ) → Turned bid (x .part) x (Sending i p a) (Symbol b) (sent x i p a)
   unfolding sent
   sent-turned x i p a b =
-      tested (ltb i room) (λ _. tested (ltb (i + 1) (x .out .len)) (λ _. going sends-on refl) (λ _. sentWhole-turned x i p a b))
-      (λ _. sentWhole-turned x i p a b)
+      tested (ltb (i + 1) (x .out .len)) (λ _. going sends-on refl) (λ _. sentWhole-turned x i p a b)
 
   hearOwn-turned : (x : Station) (b i : ℕ) (p : Part) (a : Attempt) → Turned bid (x .part) x (Sending i p a) (Symbol b) (hearOwn x b i p a)
   unfolding hearOwn
@@ -192,22 +197,20 @@ module _ {bid : Bool} where
       tested (answered (x .part .zz)) (λ _. going (awaits-answer e) refl) (λ _. going (ends-taken e) refl)
   taken-turned x AnswerPart a b e = going (answer-taken e) refl
 
-  refused-turned : (x : Station) (p : Part) (a : Attempt) (b : ℕ) → b ≡ nak → Turned bid (x .part) x (Awaiting p a) (Symbol b) (refused x p a)
-  unfolding refused
-  refused-turned x p First b e = going (sends-again e) refl
-  refused-turned x p Again b e = failed-turned x p Again b TwiceRefused
+  nak-turned : (x : Station) (p : Part) (a : Attempt) (b : ℕ) → b ≡ nak → Turned bid (x .part) x (Awaiting p a) (Symbol b) (nakHeard a x p)
+  nak-turned x p First b e = going (sends-again e) refl
+  nak-turned x p Again b e = failed-turned x p Again b after-3
 
   hearReply-turned : (x : Station) (b : ℕ) (p : Part) (a : Attempt) → Turned bid (x .part) x (Awaiting p a) (Symbol b) (hearReply x b p a)
   unfolding hearReply
   hearReply-turned x b p a =
       tested (eqb b ack) (λ e. taken-turned x p a b (eqb-true b ack e))
-      (λ _. tested (eqb b nak) (λ e. refused-turned x p a b (eqb-true b nak e)) (λ _. failed-turned x p a b NoAcknowledgement))
+      (λ _. tested (eqb b nak) (λ e. nak-turned x p a b (eqb-true b nak e)) (λ _. failed-turned x p a b after-2))
 
-  lost-turned : (x : Station) (p : Part) (a : Attempt) (m k : Bool) (b : ℕ) (f : Failure)
-      → Turned bid (x .part) x (Judging p a m k) (Symbol b) (unread x p f)
-  unfolding unread
+  lost-turned : (x : Station) (p : Part) (a : Attempt) (m k : Bool) (b : ℕ) {f : Failure} → SendsAa f
+      → Turned bid (x .part) x (Judging p a m k) (Symbol b) (readerFails p f x)
   lost-turned x MasterPart a m k b f = going gives-nothing refl
-  lost-turned x AnswerPart a m k b f = going answer-lost refl
+  lost-turned x AnswerPart a m k b f = rw (owner-sends-aa x f) (going answer-lost refl)
 
   handedOut-turned : (x : Station) (p : Part) (a : Attempt) (k : Bool) (b : ℕ) → b ≡ ack
       → Turned bid (x .part) x (Judging p a true k) (Symbol b) (handedOut x p)
@@ -220,20 +223,19 @@ module _ {bid : Bool} where
       → Turned bid (x .part) x (Judging p a m k) (Symbol b) (judgedTaken x p m)
   unfolding judgedTaken
   judgedTaken-turned x p a true k b e = handedOut-turned x p a k b e
-  judgedTaken-turned x p a false k b e = lost-turned x p a false k b NoAcknowledgement
+  judgedTaken-turned x p a false k b e = lost-turned x p a false k b after-2
 
   readAgain-turned : (x : Station) (p : Part) (a : Attempt) (m k : Bool) (b : ℕ) → b ≡ nak
-      → Turned bid (x .part) x (Judging p a m k) (Symbol b) (readAgain x p a)
-  unfolding readAgain
+      → Turned bid (x .part) x (Judging p a m k) (Symbol b) (readAgain a x p)
   readAgain-turned x p First m k b e = going (reads-again e) refl
-  readAgain-turned x p Again m k b e = lost-turned x p Again m k b TwiceRefused
+  readAgain-turned x p Again m k b e = lost-turned x p Again m k b after-3
 
   judges-turned : (x : Station) (b : ℕ) (p : Part) (a : Attempt) (m k : Bool)
       → Turned bid (x .part) x (Judging p a m k) (Symbol b) (judges x b p a m)
   unfolding judges
   judges-turned x b p a m k =
       tested (eqb b ack) (λ e. judgedTaken-turned x p a m k b (eqb-true b ack e))
-      (λ _. tested (eqb b nak) (λ e. readAgain-turned x p a m k b (eqb-true b nak e)) (λ _. lost-turned x p a m k b NoAcknowledgement))
+      (λ _. tested (eqb b nak) (λ e. readAgain-turned x p a m k b (eqb-true b nak e)) (λ _. lost-turned x p a m k b after-2))
 
 owned-turned : (x : Station) (b : ℕ) (c : Cursor) (p : Part) (a : Attempt) {bid : Bool} → bid ≡ true → b ≡ x .address
     → Turned bid (x .part) x (Reading c p a) (Symbol b) (owned x)
@@ -253,7 +255,7 @@ pub record Slot (s : Station) (p : Phase) (h : Sound) (t : Turn) : Type 0 where
   pub enters : Enters s h entering
   pub turned : Turned (bids s) (s .part) entering p h t
 
-quiet-turned : (s : Station) (p : Phase) → Turned (bids s) (s .part) (overNow s) p Quiet (hearQuietAt p (overNow s))
+quiet-turned : (s : Station) (p : Phase) → Turned (bids s) (s .part) (overNow s) p Quiet (row p heardNothing (bids s) (overNow s))
 quiet-turned s Silent = going silent-on refl
 quiet-turned s (Reading c p a) = going reading-waits refl
 quiet-turned s (Sending i p a) = disturbed-turned (overNow s) i p a Quiet
@@ -280,7 +282,7 @@ bid-slot s b c p a bid = by-address (eqb b (s .address)) refl
           turned = reads-turned (withdrawn (noted s) b) b c p a;
         }
 
-reading-slot : (s : Station) (b : ℕ) (c : Cursor) (p : Part) (a : Attempt) → Slot s (Reading c p a) (Symbol b) (hearReading s b c p a)
+reading-slot : (s : Station) (b : ℕ) (c : Cursor) (p : Part) (a : Attempt) → Slot s (Reading c p a) (Symbol b) (hearReading (bids s) (noted s) b c p a)
 unfolding hearReading noted
 reading-slot s b c p a = by-bid (bids s) refl
   where
@@ -288,7 +290,7 @@ reading-slot s b c p a = by-bid (bids s) refl
     by-bid true e = bid-slot s b c p a e
     by-bid false e = noted-slot s (Reading c p a) b (reads-turned (noted s) b c p a)
 
-symbol-slot : (s : Station) (b : ℕ) (p : Phase) → Slot s p (Symbol b) (hearSymbolAt p s b)
+symbol-slot : (s : Station) (b : ℕ) (p : Phase) → Slot s p (Symbol b) (row p (heardOther b) (bids s) (noted s))
 unfolding noted
 symbol-slot s b Silent = noted-slot s Silent b (going silent-on refl)
 symbol-slot s b (Reading c p a) = reading-slot s b c p a

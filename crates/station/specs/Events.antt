@@ -5,10 +5,9 @@ use lib.ListN.{length}
 use Rattle.wire.specs.Form.{bytesOf}
 use Rattle.wire.specs.declared.part.Telegram.{Telegram}
 use Rattle.station.specs.declared.phase.Failure.{Failure}
-use Rattle.station.specs.declared.phase.Failure.the-variants.{Disturbed, NoAcknowledgement, TwiceRefused, SynHeard, PairBroken}
+use Rattle.station.specs.declared.phase.Failure.the-variants.{Disturbed, WrongAck, TwiceNak, SynHeard, PairBroken}
 use Rattle.station.specs.declared.phase.Told.{Told}
 use Rattle.station.specs.declared.phase.Told.the-variants.{Silence, Owns, Taken, Failed, Free, FailedFree, Given, Answered}
-use Rattle.station.specs.declared.station.Station.{Station}
 use Rattle.station.specs.declared.station.Turn.{Turn}
 
 -- the six words, in the order in which 01 names them
@@ -23,11 +22,12 @@ pub record Event : Type 0 where
   -- QQ and ZZ of the telegram that a free line lets go, which are not printed
   pub leaving : List ℕ
 
--- 1 heard anything but its own symbol, 2 no acknowledgement, 3 refused twice, 4 AA, 5 a broken pair in an answer
+-- 1 heard anything but its own symbol; 2 another symbol than 00, FF or AA as acknowledgement, or 00 after a wrong CRC; 3 FF twice;
+-- 4 AA; 5 a broken pair in an answer
 abbrev pub numberOf : Failure → ℕ
 numberOf Disturbed = 1
-numberOf NoAcknowledgement = 2
-numberOf TwiceRefused = 3
+numberOf WrongAck = 2
+numberOf TwiceNak = 3
 numberOf SynHeard = 4
 numberOf PairBroken = 5
 

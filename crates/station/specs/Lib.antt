@@ -1,10 +1,10 @@
+pub mod Addressed
+pub mod Admission
 pub mod Events
 pub mod Hear
-pub mod Judge
 pub mod Outbox
 pub mod Phase
-pub mod Read
 pub mod Replies
-pub mod Send
 pub mod Station
+pub mod Table
 pub mod Turn

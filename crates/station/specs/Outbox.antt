@@ -40,4 +40,4 @@ oldestOf o = getD (o .slots) 0 noTelegram
 unfoldable pub dropped : Outbox → Outbox
 dropped o =
     cond (eqb (o .held) 0) o
-    (record { slots = drop 1 (o .slots) ++ drop 3 (o .slots); held = o .held - 1 })
+    (record { slots = drop 1 (o .slots) ++ drop (queueDepth - 1) (o .slots); held = o .held - 1 })

@@ -6,15 +6,16 @@ use lib.Dec.{ltb}
 use lib.ListN.{getD}
 use Rattle.wire.specs.Form.{room, holding, answerForm}
 use Rattle.wire.specs.declared.form.Wire.{Wire}
-use Rattle.station.specs.declared.phase.Part.the-variants.{AnswerPart}
+use Rattle.wire.specs.declared.part.Part.the-variants.{AnswerPart}
 use Rattle.station.specs.declared.phase.Attempt.the-variants.{First}
 use Rattle.station.specs.declared.phase.Phase.{Phase}
 use Rattle.station.specs.declared.phase.Phase.the-variants.{Silent, Reading, Sending, Awaiting, Judging, Owing, Releasing}
-use Rattle.station.specs.declared.phase.Since.the-variants.{Other}
+use Rattle.station.specs.declared.phase.Since.the-variants.{ManyOrNoSyn}
 use Rattle.station.specs.declared.phase.Sound.{Sound}
 use Rattle.station.specs.declared.phase.Sound.the-variants.{Quiet, Symbol}
 use Rattle.station.specs.declared.station.Station.{Station}
-use Rattle.station.specs.Outbox.{noneHeld, heldIn, oldestOf}
+use Rattle.station.specs.Admission.{sayBid}
+use Rattle.station.specs.Outbox.{noneHeld, oldestOf}
 use Rattle.station.specs.Replies.{noEntries, answerFor}
 use Rattle.station.specs.Turn.{about}
 
@@ -36,7 +37,7 @@ fresh address master =
       master = master;
       admitted = false;
       marked = false;
-      since = Other;
+      since = ManyOrNoSyn;
       phase = Silent;
       part = oldestOf noneHeld;
       out = holding [];
@@ -65,14 +66,6 @@ readyAt Releasing s = s
 
 unfoldable pub ready : Station → Station
 ready s = readyAt (s .phase) s
-
--- admitted, with a telegram waiting
-unfoldable pub bids : Station → Bool
-bids s = cond (s .admitted) (ltb 0 (heldIn (s .outbox))) false
-
--- its QQ, if it bids
-unfoldable pub sayBid : Station → Sound
-sayBid s = cond (bids s) (Symbol (s .address)) Quiet
 
 -- the symbol at a place of the part that it sends
 unfoldable pub due : Station → ℕ → Sound

@@ -1,13 +1,13 @@
 // The reader of a part judges by the next symbol heard (01, "Acknowledgement", "Answer").
 ghost use mathlib.Core.Path.{_≡_};
-ghost use Rattle.station.specs.Judge.{startOf, judges, judgedTaken, handedOut, readAgain};
+ghost use Rattle.station.specs.Table.{handedOut, judgedTaken, readAgain, judges};
 use crate::phase::Attempt;
 use crate::phase::Failure;
-use crate::phase::Part;
 use crate::phase::Phase;
 use crate::phase::Told;
 use crate::station::Station;
 use crate::station::Turn;
+use wire::part::Part;
 use wire::reader::Cursor;
 
 impl Station {
@@ -20,7 +20,7 @@ impl Station {
         if s == Station::NAK {
             return self.read_again(part, attempt);
         }
-        self.unread(part, Failure::NoAcknowledgement)
+        self.fail_reader(part, Failure::WrongAck)
     }
 
     // 00 after a wrong CRC hands nothing out.
@@ -30,7 +30,7 @@ impl Station {
         if matched {
             return self.hand_out(part);
         }
-        self.unread(part, Failure::NoAcknowledgement)
+        self.fail_reader(part, Failure::WrongAck)
     }
 
     fn hand_out(self, part: Part) -> Turn
@@ -49,11 +49,11 @@ impl Station {
 
     // FF the first time: the part is read again from its first symbol, and checked in full again.
     fn read_again(self, part: Part, attempt: Attempt) -> Turn
-        ensures { λ r. ⌜ r ≡ readAgain self part attempt ⌝ }
+        ensures { λ r. ⌜ r ≡ readAgain attempt self part ⌝ }
     {
         match attempt {
             Attempt::First => {
-                let start = part.start();
+                let start = Cursor::start(part);
                 self.go(
                     Phase::Reading {
                         cursor: start,
@@ -63,18 +63,7 @@ impl Station {
                     Told::Silence,
                 )
             }
-            Attempt::Again => self.unread(part, Failure::TwiceRefused),
-        }
-    }
-}
-
-impl Part {
-    fn start(self) -> Cursor
-        ensures { λ r. ⌜ r ≡ startOf self ⌝ }
-    {
-        match self {
-            Part::MasterPart => Cursor::master(),
-            Part::AnswerPart => Cursor::answer(),
+            Attempt::Again => self.fail_reader(part, Failure::TwiceNak),
         }
     }
 }

@@ -1,4 +1,6 @@
 // One station on the wire, slot by slot: what it says, and what it makes of what all hear.
+mod admission;
+mod fail;
 mod hear;
 mod judge;
 pub mod outbox;

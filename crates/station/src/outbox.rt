@@ -88,12 +88,13 @@ impl Outbox {
         if n == 0 {
             return self;
         }
-        let a = self.slots[1];
-        let b = self.slots[2];
-        let c = self.slots[3];
-        self.slots[0] = a;
-        self.slots[1] = b;
-        self.slots[2] = c;
+        let mut i: usize = 0;
+        while i < Station::QUEUE_DEPTH - 1 {
+            let next = i + 1;
+            let t = self.slots[next];
+            self.slots[i] = t;
+            i = next;
+        }
         self.held = n - 1;
         self
     }

@@ -1,13 +1,8 @@
 // What a station is about, what it says and hears in a slot, and what it is told.
 ghost use mathlib.Core.Path.{_≡_};
-ghost use Rattle.station.specs.Phase.{isMasterPart, isAnswerPart, owner, senderTold, readerTold};
+ghost use Rattle.station.specs.Phase.{owner};
+use wire::part::Part;
 use wire::reader::Cursor;
-
-// Which part: the master sends the one and reads the other.
-pub enum Part {
-    MasterPart,
-    AnswerPart,
-}
 
 // Counted for each part by itself.
 pub enum Attempt {
@@ -47,11 +42,12 @@ pub enum Phase {
     Releasing,
 }
 
-// What was heard since the last AA; before the first AA nothing counts.
+// What was heard since the last AA.
 pub enum Since {
     Nothing,
     OneSymbol,
-    Other,
+    // More than one symbol, or no AA yet: before the first AA nothing counts.
+    ManyOrNoSyn,
 }
 
 // What one station says in a slot, and what all hear.
@@ -62,10 +58,15 @@ pub enum Sound {
 
 // Failed 1 to 5.
 pub enum Failure {
+    // 1: anything but its own symbol was heard.
     Disturbed,
-    NoAcknowledgement,
-    TwiceRefused,
+    // 2: another symbol than 00, FF or AA, or 00 after a wrong CRC.
+    WrongAck,
+    // 3: FF a second time.
+    TwiceNak,
+    // 4: AA.
     SynHeard,
+    // 5: a broken pair in an answer.
     PairBroken,
 }
 
@@ -107,46 +108,6 @@ impl Phase {
             } => part.is_answer(),
             Phase::Owing => false,
             Phase::Releasing => true,
-        }
-    }
-}
-
-impl Part {
-    fn is_master(self) -> bool
-        ensures { λ r. ⌜ r ≡ isMasterPart self ⌝ }
-    {
-        match self {
-            Part::MasterPart => true,
-            Part::AnswerPart => false,
-        }
-    }
-
-    fn is_answer(self) -> bool
-        ensures { λ r. ⌜ r ≡ isAnswerPart self ⌝ }
-    {
-        match self {
-            Part::MasterPart => false,
-            Part::AnswerPart => true,
-        }
-    }
-
-    // What AA tells the sender of a part: of a master part that is the owner, who leaves.
-    pub(crate) fn sender_told(self, failure: Failure) -> Told
-        ensures { λ r. ⌜ r ≡ senderTold self failure ⌝ }
-    {
-        match self {
-            Part::MasterPart => Told::FailedFree(failure),
-            Part::AnswerPart => Told::Failed(failure),
-        }
-    }
-
-    // What AA tells the reader of a part: of an answer that is the owner, who leaves.
-    pub(crate) fn reader_told(self) -> Told
-        ensures { λ r. ⌜ r ≡ readerTold self ⌝ }
-    {
-        match self {
-            Part::MasterPart => Told::Silence,
-            Part::AnswerPart => Told::FailedFree(Failure::SynHeard),
         }
     }
 }

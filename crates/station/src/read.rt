@@ -1,14 +1,15 @@
 // The reader of a part: the owner reads an answer, any other station a master part (01, "Reading", "Broadcast").
 ghost use mathlib.Core.Path.{_≡_};
-ghost use Rattle.station.specs.Read.{forAll, answered, isOwn, reads, readOn, addressed, whole, unread};
+ghost use Rattle.station.specs.Addressed.{forAll, answered, isOwn};
+ghost use Rattle.station.specs.Table.{whole, addressed, readOn, reads, hearBid};
 use crate::phase::Attempt;
 use crate::phase::Failure;
-use crate::phase::Part;
 use crate::phase::Phase;
 use crate::phase::Told;
 use crate::station::Station;
 use crate::station::Turn;
-use address::Kind;
+use address::Role;
+use wire::part::Part;
 use wire::reader::Cursor;
 use wire::reader::Outcome;
 use wire::reader::Place;
@@ -18,11 +19,11 @@ impl Station {
     pub(crate) fn for_all(self) -> bool
         ensures { λ r. ⌜ r ≡ forAll (self .part .zz) ⌝ }
     {
-        match address::kind_of(self.part.zz) {
-            Kind::Master => false,
-            Kind::Slave => false,
-            Kind::Broadcast => true,
-            Kind::Never => false,
+        match address::role_of(self.part.zz) {
+            Role::Master => false,
+            Role::Slave => false,
+            Role::Broadcast => true,
+            Role::Never => false,
         }
     }
 
@@ -61,11 +62,11 @@ impl Station {
         let outcome = step.outcome;
         match outcome {
             Outcome::More => self.read_on(step.cursor, part, attempt),
-            Outcome::Cut => self.unread(part, Failure::SynHeard),
-            Outcome::NoMaster => self.unread(part, Failure::PairBroken),
-            Outcome::Unusable => self.unread(part, Failure::PairBroken),
+            Outcome::Cut => self.fail_reader(part, Failure::PairBroken),
+            Outcome::NoMaster => self.fail_reader(part, Failure::PairBroken),
+            Outcome::Unusable => self.fail_reader(part, Failure::PairBroken),
             Outcome::TooLong => self.whole(part, attempt, false),
-            Outcome::BrokenPair => self.unread(part, Failure::PairBroken),
+            Outcome::BrokenPair => self.fail_reader(part, Failure::PairBroken),
             Outcome::Whole(matched) => self.whole(part, attempt, matched),
         }
     }
@@ -122,13 +123,13 @@ impl Station {
         }
     }
 
-    // The reading came to nothing: an owner is told and sends SYN in the next slot, any other station is silent.
-    pub(crate) fn unread(self, part: Part, failure: Failure) -> Turn
-        ensures { λ r. ⌜ r ≡ unread self part failure ⌝ }
+    // Who sent its QQ owns the wire, or withdraws and reads the symbol as QQ like any other station.
+    pub(crate) fn hear_bid(self, s: u8, cursor: Cursor, part: Part, attempt: Attempt) -> Turn
+        ensures { λ r. ⌜ r ≡ hearBid self s cursor part attempt ⌝ }
     {
-        match part {
-            Part::MasterPart => self.go(Phase::Silent, Told::Silence),
-            Part::AnswerPart => self.go(Phase::Releasing, Told::Failed(failure)),
+        if s == self.address {
+            return self.owned();
         }
+        self.withdrawn(s).read(s, cursor, part, attempt)
     }
 }

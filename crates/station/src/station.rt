@@ -1,16 +1,16 @@
 // A station as a value: fresh, made ready for a slot, and what it says.
 ghost use mathlib.Core.Path.{_≡_};
 ghost use mathlib.Core.Bool.{true, false};
-ghost use Rattle.station.specs.Station.{fresh, answering, ready, bids, due, sayBid, acknowledgement, says};
+ghost use Rattle.station.specs.Station.{fresh, answering, ready, due, acknowledgement, says};
 use crate::outbox::Outbox;
 use crate::phase::Attempt;
-use crate::phase::Part;
 use crate::phase::Phase;
 use crate::phase::Since;
 use crate::phase::Sound;
 use crate::phase::Told;
 use crate::replies::ReplyBook;
 use wire::form::Wire;
+use wire::part::Part;
 use wire::part::Telegram;
 
 pub struct Station {
@@ -71,7 +71,7 @@ impl Station {
             master: master,
             admitted: false,
             marked: false,
-            since: Since::Other,
+            since: Since::ManyOrNoSyn,
             phase: Phase::Silent,
             part: part,
             out: out,
@@ -106,18 +106,6 @@ impl Station {
             },
             out: out,
             ..self
-        }
-    }
-
-    // Whether it sends its QQ: a master that the AA admitted, with a telegram waiting.
-    pub fn bids(self) -> bool
-        ensures { λ r. ⌜ r ≡ bids self ⌝ }
-    {
-        if self.admitted {
-            let outbox = self.outbox;
-            0 < outbox.held()
-        } else {
-            false
         }
     }
 
@@ -166,16 +154,6 @@ impl Station {
             } => Station::acknowledgement(matched, acknowledged),
             Phase::Owing => Sound::Quiet,
             Phase::Releasing => Sound::Symbol(Station::SYN),
-        }
-    }
-
-    fn say_bid(self) -> Sound
-        ensures { λ r. ⌜ r ≡ sayBid self ⌝ }
-    {
-        if self.bids() {
-            Sound::Symbol(self.address)
-        } else {
-            Sound::Quiet
         }
     }
 

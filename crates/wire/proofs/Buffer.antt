@@ -1,12 +1,12 @@
 -- Symbols put behind those that the wire buffer holds. Assumes nothing.
-use mathlib.Core.Path.{_≡_, refl, sym, ap, ap₂, _∙_}
+use mathlib.Core.Path.{_≡_, sym, ap, ap₂, _∙_}
 use mathlib.Core.List.{List, [], _∷_, _++_}
 use Prim.Native.Nat.{ℕ, zero, suc, _+_, _-_, _≤_}
 use native.Mathlib.Nat.{sub-zero, zero-sub, suc-sub-suc}
 use native.Mathlib.Omega.{arith}
 use native.Mathlib.Numerals.{add-one}
-use lib.ListN.{length, take, drop, set, replicate, length-append, length-replicate}
-use lib.Seq.{sets, sets-eq, take-append-seam, drop-append-add}
+use lib.ListN.{length, drop, set, replicate, length-append, length-replicate}
+use lib.Seq.{sets-eq, take-append-seam, drop-append-add}
 use Rattle.wire.specs.declared.form.Wire.{Wire}
 use Rattle.wire.specs.Form.{room, holding, heldBy, appended}
 

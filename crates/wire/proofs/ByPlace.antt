@@ -15,8 +15,12 @@ use Rattle.crc.proofs.Feed.{of-snoc}
 use Rattle.address.specs.Master.{isMaster}
 use Rattle.wire.specs.Pair.{expandOne, expand, undo}
 use Rattle.wire.specs.Form.{covered, bytesOf}
-use Rattle.wire.specs.Reader.{withQq, withZz, withPb, withSb, withNn, withByte, ended, more, onward, placeAfter, readQq, readNn, readByte, dataAs, readData, crcAs, readCrc, escapeAt, otherAt}
-use Rattle.wire.specs.Reading.{Sixteen, Usable, NoSyn, none, next, Which, master, before}
+use Rattle.wire.specs.Reader.{withQq, withZz, withPb, withSb, withNn, withByte, ended, more, onward, placeAfter, readQq, readNn, readByte, dataAs, readData, crcAs, readCrc, readHead, readAt}
+use Rattle.wire.specs.Reading.{Sixteen, Usable, NoSyn, none, next, before}
+use Rattle.wire.specs.Symbol.{isEscape, isCount}
+use Rattle.wire.specs.declared.symbol.Kind.{Kind}
+use Rattle.wire.specs.declared.part.Part.{Part}
+use Rattle.wire.specs.declared.part.Part.the-variants.{MasterPart}
 use Rattle.wire.specs.declared.pair.Undone.{Undone}
 use Rattle.wire.specs.declared.pair.Undone.the-variants.{Byte, Opens, Broken}
 use Rattle.wire.specs.declared.part.Telegram.{Telegram}
@@ -32,7 +36,7 @@ use Rattle.wire.proofs.Symbols.{no-syn-append}
 use Rattle.wire.proofs.SoFar.{heard, Counted, Upto, at-qq, at-zz, at-pb, at-sb, at-nn, at-data, at-crc, SoFar, IsWhole}
 
 -- what a step shows of the symbols read, by its outcome
-abbrev pub AfterAs : Outcome → Which → Cursor → Telegram → List ℕ → Type 0
+abbrev pub AfterAs : Outcome → Part → Cursor → Telegram → List ℕ → Type 0
 AfterAs More w c p ys = SoFar w c p ys
 AfterAs (Whole right) w c p ys = IsWhole w p ys right
 AfterAs Cut w c p ys = Unit {0}
@@ -41,16 +45,16 @@ AfterAs Unusable w c p ys = Unit {0}
 AfterAs TooLong w c p ys = Unit {0}
 AfterAs BrokenPair w c p ys = Unit {0}
 
-abbrev pub After : Which → List ℕ → Step → Type 0
+abbrev pub After : Part → List ℕ → Step → Type 0
 After w ys r = AfterAs (r .outcome) w (r .cursor) (r .part) ys
 
-after-if : (w : Which) (ys : List ℕ) (b : Bool) (x y : Step) → (b ≡ true → After w ys x) → (b ≡ false → After w ys y)
+after-if : (w : Part) (ys : List ℕ) (b : Bool) (x y : Step) → (b ≡ true → After w ys x) → (b ≡ false → After w ys y)
     → After w ys (cond b x y)
 after-if w ys true x y f g = f refl
 after-if w ys false x y f g = g refl
 
 -- one more data byte in its place
-heard-more : (w : Which) (p : Telegram) (read b : ℕ) → read < length (p .load .bytes)
+heard-more : (w : Part) (p : Telegram) (read b : ℕ) → read < length (p .load .bytes)
     → heard w (withByte p read b) (read + 1) ≡ heard w p read ++ expandOne b
 heard-more w p read b h =
     let bs = p .load .bytes in
@@ -59,7 +63,7 @@ heard-more w p read b h =
     ∙ sym (append-assoc (before w p) (p .load .nn ∷ expand (take read bs)) (expandOne b))
 
 -- all data bytes are heard: these are the symbols that the CRC covers
-heard-all : (w : Which) (nn : ℕ) (p : Telegram) → Counted w nn p → Sixteen (p .load)
+heard-all : (w : Part) (nn : ℕ) (p : Telegram) → Counted w nn p → Sixteen (p .load)
     → heard w p nn ≡ covered (before w p) (bytesOf (p .load))
 unfolding covered
 heard-all w nn p k full =
@@ -69,7 +73,7 @@ heard-all w nn p k full =
     ap (λ (m : ℕ). before w p ++ (n ∷ expand (take m bs))) (k .same) ∙ ap (λ (m : ℕ). before w p ++ (m ∷ expand (take n bs))) e
 
 -- behind `read` data bytes comes the next one, or the CRC
-placed : (w : Which) (register nn read : ℕ) (p : Telegram) (ys : List ℕ) → Counted w nn p → read ≤ nn → ys ≡ heard w p read
+placed : (w : Part) (register nn read : ℕ) (p : Telegram) (ys : List ℕ) → Counted w nn p → read ≤ nn → ys ≡ heard w p read
     → register ≡ crcOf ys → Upto register nn p ys w (placeAfter read nn) false
 unfolding placeAfter
 placed w register nn read p ys k l e r = go (ltb read nn) refl
@@ -93,7 +97,7 @@ module _ (at register nn : ℕ) (p : Telegram) (xs : List ℕ) (s : ℕ) (counts
   all-clear = no-syn-append clear (next not-syn none)
 
   -- the cursor moved on by one
-  moved : (w : Which) (place : Place) (opened : Bool) (register′ nn′ : ℕ) (p′ : Telegram) → Sixteen (p′ .load)
+  moved : (w : Part) (place : Place) (opened : Bool) (register′ nn′ : ℕ) (p′ : Telegram) → Sixteen (p′ .load)
       → Upto register′ nn′ p′ (xs ++ (s ∷ [])) w place opened
       → SoFar w (record { at = (at + 1) % 2 ^ 8; place = place; opened = opened; register = register′; nn = nn′ }) p′ (xs ++ (s ∷ []))
   moved w place opened register′ nn′ p′ full u =
@@ -108,7 +112,7 @@ module _ (at register nn : ℕ) (p : Telegram) (xs : List ℕ) (s : ℕ) (counts
       snoc (ys ++ pending opened) e ∙ append-assoc ys (pending opened) (s ∷ []) ∙ ap (λ (l : List ℕ). ys ++ l) q
 
   -- a symbol of the data
-  data-step : (w : Which) (read : ℕ) (opened : Bool) (u : Undone) → undo opened s ≡ u → Counted w nn p → read < nn
+  data-step : (w : Part) (read : ℕ) (opened : Bool) (u : Undone) → undo opened s ≡ u → Counted w nn p → read < nn
       → xs ≡ heard w p read ++ pending opened → register ≡ crcOf xs
       → After w (xs ++ (s ∷ [])) (dataAs u (here (Data read) opened) p read s)
   unfolding readByte more ended onward
@@ -128,7 +132,7 @@ module _ (at register nn : ℕ) (p : Telegram) (xs : List ℕ) (s : ℕ) (counts
   data-step w read opened Broken e k l x r = tt
 
   -- a symbol of the CRC
-  crc-step : (w : Which) (opened : Bool) (u : Undone) → undo opened s ≡ u → Counted w nn p
+  crc-step : (w : Part) (opened : Bool) (u : Undone) → undo opened s ≡ u → Counted w nn p
       → xs ≡ heard w p nn ++ pending opened → register ≡ crcOf (heard w p nn)
       → After w (xs ++ (s ∷ [])) (crcAs u (here Crc opened) p)
   unfolding more ended
@@ -147,45 +151,38 @@ module _ (at register nn : ℕ) (p : Telegram) (xs : List ℕ) (s : ℕ) (counts
       moved w Crc true register nn p array (at-crc k (joined (heard w p nn) (pending true) opened x (undo-opens opened s e)) r)
   crc-step w opened Broken e k x r = tt
 
-  -- A9
-  pub escape-step : (w : Which) (place : Place) (opened : Bool) → Upto register nn p xs w place opened
-      → After w (xs ++ (s ∷ [])) (escapeAt place (here place opened) p s)
-  unfolding readData readCrc ended
-  escape-step w place opened (at-qq e r) = tt
-  escape-step w place opened (at-zz m e r) = tt
-  escape-step w place opened (at-pb m z e r) = tt
-  escape-step w place opened (at-sb m z b e r) = tt
-  escape-step w place opened (at-nn m e r) = tt
-  escape-step w place opened (at-data {read = read} k l e r) = data-step w read opened (undo opened s) refl k l e r
-  escape-step w place opened (at-crc k e r) = crc-step w opened (undo opened s) refl k e r
-
   -- a symbol that is neither A9 nor AA
   usable : s ≢ 0xA9 → Usable s
   usable n = record { notEscape = n; notSyn = not-syn }
 
-  nn-heard : (w : Which) → xs ≡ before w p → xs ++ (s ∷ []) ≡ heard w (withNn p s) 0
+  nn-heard : (w : Part) → xs ≡ before w p → xs ++ (s ∷ []) ≡ heard w (withNn p s) 0
   unfolding expand
   nn-heard w e = snoc (before w p) e
 
-  pub other-step : (w : Which) (place : Place) (opened counting : Bool) → s ≢ 0xA9 → (counting ≡ true → s ≤ 16)
-      → Upto register nn p xs w place opened → After w (xs ++ (s ∷ [])) (otherAt place (here place opened) p s counting)
-  unfolding readQq readNn readData readCrc more ended onward
-  other-step w place opened counting n c (at-qq e r) =
-      after-if master (xs ++ (s ∷ [])) (isMaster s) _ _
-      (λ m. moved master Zz false (crcStep register s) nn (withQq p s) array (at-zz m (snoc [] e) (fed r)))
+  -- a symbol other than AA, of the kind k
+  pub place-step : (w : Part) (place : Place) (opened : Bool) (k : Kind) → (isEscape k ≡ false → s ≢ 0xA9) → (isCount k ≡ true → s ≤ 16)
+      → Upto register nn p xs w place opened → After w (xs ++ (s ∷ [])) (readAt place (here place opened) p s k)
+  unfolding readQq readHead readNn readData readCrc more ended onward
+  place-step w place opened k n c (at-qq e r) =
+      after-if MasterPart (xs ++ (s ∷ [])) (isMaster s) _ _
+      (λ m. moved MasterPart Zz false (crcStep register s) nn (withQq p s) array (at-zz m (snoc [] e) (fed r)))
       (λ m. tt)
-  other-step w place opened counting n c (at-zz m e r) =
-      moved master Pb false (crcStep register s) nn (withZz p s) array (at-pb m (usable n) (snoc (p .qq ∷ []) e) (fed r))
-  other-step w place opened counting n c (at-pb m z e r) =
-      moved master Sb false (crcStep register s) nn (withPb p s) array (at-sb m z (usable n) (snoc (p .qq ∷ p .zz ∷ []) e) (fed r))
-  other-step w place opened counting n c (at-sb m z b e r) =
-      moved master Nn false (crcStep register s) nn (withSb p s) array
-      (at-nn (record { qq = m; zz = z; pb = b; sb = usable n }) (snoc (p .qq ∷ p .zz ∷ p .pb ∷ []) e) (fed r))
-  other-step w place opened counting n c (at-nn m e r) =
-      after-if w (xs ++ (s ∷ [])) counting _ _
+  place-step w place opened k n c (at-zz m e r) =
+      after-if MasterPart (xs ++ (s ∷ [])) (isEscape k) _ _ (λ t. tt)
+      (λ t. moved MasterPart Pb false (crcStep register s) nn (withZz p s) array (at-pb m (usable (n t)) (snoc (p .qq ∷ []) e) (fed r)))
+  place-step w place opened k n c (at-pb m z e r) =
+      after-if MasterPart (xs ++ (s ∷ [])) (isEscape k) _ _ (λ t. tt)
+      (λ t. moved MasterPart Sb false (crcStep register s) nn (withPb p s) array
+      (at-sb m z (usable (n t)) (snoc (p .qq ∷ p .zz ∷ []) e) (fed r)))
+  place-step w place opened k n c (at-sb m z b e r) =
+      after-if MasterPart (xs ++ (s ∷ [])) (isEscape k) _ _ (λ t. tt)
+      (λ t. moved MasterPart Nn false (crcStep register s) nn (withSb p s) array
+      (at-nn (record { qq = m; zz = z; pb = b; sb = usable (n t) }) (snoc (p .qq ∷ p .zz ∷ p .pb ∷ []) e) (fed r)))
+  place-step w place opened k n c (at-nn m e r) =
+      after-if w (xs ++ (s ∷ [])) (isCount k) _ _
       (λ t. moved w (placeAfter 0 s) false (crcStep register s) s (withNn p s) array
       (placed w (crcStep register s) s 0 (withNn p s) (xs ++ (s ∷ [])) (record { fit = m; same = refl; most = c t }) (omega arith)
       (nn-heard w e) (fed r)))
       (λ t. tt)
-  other-step w place opened counting n c (at-data {read = read} k l e r) = data-step w read opened (undo opened s) refl k l e r
-  other-step w place opened counting n c (at-crc k e r) = crc-step w opened (undo opened s) refl k e r
+  place-step w place opened k n c (at-data {read = read} q l e r) = data-step w read opened (undo opened s) refl q l e r
+  place-step w place opened k n c (at-crc q e r) = crc-step w opened (undo opened s) refl q e r

@@ -8,8 +8,10 @@ use lib.Dec.{eqb, ltb}
 use lib.ListN.{length, length-set}
 use Rattle.address.specs.Master.{isMaster}
 use Rattle.wire.specs.Pair.{undo}
-use Rattle.wire.specs.Reader.{ended, more, readQq, readNn, readByte, dataAs, readData, crcAs, readCrc, escapeAt, readEscape, otherAt, readOther, readAs, readOne}
+use Rattle.wire.specs.Reader.{ended, more, readQq, readNn, readByte, dataAs, readData, crcAs, readCrc, readHead, readAt, readPlace, readAs, readOne}
+use Rattle.wire.specs.Symbol.{isEscape, isCount}
 use Rattle.wire.specs.declared.symbol.Kind.{Kind}
+use Rattle.wire.specs.declared.symbol.Kind.the-variants.{Escape, Count, Plain}
 use Rattle.wire.specs.declared.pair.Undone.{Undone}
 use Rattle.wire.specs.declared.pair.Undone.the-variants.{Byte, Opens, Broken}
 use Rattle.wire.specs.declared.part.Telegram.{Telegram}
@@ -54,32 +56,22 @@ module _ (c : Cursor) (p : Telegram) (s : ℕ) where
   crc-went Opens = on _ p refl
   crc-went Broken = broken
 
-  escape-went : (place : Place) → Went c p (escapeAt place c p s)
-  unfolding readData readCrc
-  escape-went Qq = no-master
-  escape-went Zz = unusable
-  escape-went Pb = unusable
-  escape-went Sb = unusable
-  escape-went Nn = too-long
-  escape-went (Data read) = data-went read (undo (c .opened) s)
-  escape-went Crc = crc-went (undo (c .opened) s)
-
-  other-went : (counting : Bool) (place : Place) → Went c p (otherAt place c p s counting)
-  unfolding readData readCrc readQq readNn
-  other-went counting Qq = went-if (isMaster s) _ _ (on _ _ refl) no-master
-  other-went counting Zz = on _ _ refl
-  other-went counting Pb = on _ _ refl
-  other-went counting Sb = on _ _ refl
-  other-went counting Nn = went-if counting _ _ (on _ _ refl) too-long
-  other-went counting (Data read) = data-went read (undo (c .opened) s)
-  other-went counting Crc = crc-went (undo (c .opened) s)
+  place-went : (k : Kind) (place : Place) → Went c p (readAt place c p s k)
+  unfolding readData readCrc readQq readHead readNn
+  place-went k Qq = went-if (isMaster s) _ _ (on _ _ refl) no-master
+  place-went k Zz = went-if (isEscape k) _ _ unusable (on _ _ refl)
+  place-went k Pb = went-if (isEscape k) _ _ unusable (on _ _ refl)
+  place-went k Sb = went-if (isEscape k) _ _ unusable (on _ _ refl)
+  place-went k Nn = went-if (isCount k) _ _ (on _ _ refl) too-long
+  place-went k (Data read) = data-went read (undo (c .opened) s)
+  place-went k Crc = crc-went (undo (c .opened) s)
 
   -- every step, AA's too
   by-step : (P : Step → Type 0) → (s ≡ 0xAA → P (ended c p Cut)) → ((r : Step) → Went c p r → P r) → P (readOne c p s)
-  unfolding readOne readEscape readOther
+  unfolding readOne readPlace
   by-step P cut f =
-      by-kind (λ k. P (readAs k c p s)) s cut (λ h. f _ (escape-went (c .place))) (λ h. f _ (other-went true (c .place)))
-      (λ a b h. f _ (other-went false (c .place)))
+      by-kind (λ k. P (readAs k c p s)) s cut (λ h. f _ (place-went Escape (c .place))) (λ h. f _ (place-went Count (c .place)))
+      (λ a b h. f _ (place-went Plain (c .place)))
 
 uncut : {c : Cursor} {p : Telegram} (r : Step) → Went c p r → r .outcome ≢ Cut
 unfolding more ended

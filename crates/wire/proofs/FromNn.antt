@@ -15,8 +15,8 @@ use Rattle.crc.proofs.Feed.{feed-append}
 use Rattle.wire.specs.Symbol.{kindOf}
 use Rattle.wire.specs.Pair.{expandAs, expandOne, expand, undoFirst, undoSecond, undo}
 use Rattle.wire.specs.Form.{headOf, bytesOf}
-use Rattle.wire.specs.Reader.{withNn, withByte, ended, more, onward, crcOpened, placeAfter, readNn, readByte, readData, readCrc, readEscape, readOther, readOne}
-use Rattle.wire.specs.Reading.{Sixteen, Read, readAll}
+use Rattle.wire.specs.Reader.{withNn, withByte, ended, more, onward, crcOpened, placeAfter, readNn, readByte, readData, readCrc, readPlace, readOne}
+use Rattle.wire.specs.Reading.{Sixteen, Read, readAll, GivesBack}
 use Rattle.wire.specs.declared.symbol.Kind.{Kind}
 use Rattle.wire.specs.declared.symbol.Kind.the-variants.{Syn, Escape, Count, Plain}
 use Rattle.wire.specs.declared.part.Telegram.{Telegram}
@@ -27,15 +27,8 @@ use Rattle.wire.specs.declared.reader.Outcome.the-variants.{Whole}
 use Rattle.wire.proofs.SymbolKind.{kind-syn, kind-escape, kind-count}
 use Rattle.wire.proofs.ReadingOn.{known}
 
--- the reading ended with a whole part and a CRC that matches: this head, these data bytes, and these symbols left unread
-pub record Ends (hs bs rest : List ℕ) (r : Read) : Type 0 where
-  pub outcome : r .step .outcome ≡ Whole true
-  pub head : headOf (r .step .part) ≡ hs
-  pub bytes : bytesOf (r .step .part .load) ≡ bs
-  pub left : r .rest ≡ rest
-
-with-bytes : {hs bs cs rest : List ℕ} {r : Read} → bs ≡ cs → Ends hs bs rest r → Ends hs cs rest r
-with-bytes e h = record { outcome = h .outcome; head = h .head; bytes = h .bytes ∙ e; left = h .left }
+with-bytes : {hs bs cs rest : List ℕ} {r : Read} → bs ≡ cs → GivesBack hs bs rest r → GivesBack hs cs rest r
+with-bytes e h = record { outcome = h .outcome; head = h .head; bytes = h .bytes ∙ e; rest = h .rest }
 
 pub goes-on : (c c′ : Cursor) (p p′ : Telegram) (s : ℕ) (ss : List ℕ) → readOne c p s ≡ more c′ p′ → readAll c p (s ∷ ss) ≡ readAll c′ p′ ss
 unfolding more
@@ -52,36 +45,36 @@ here at register nn place opened = record { at = at; place = place; opened = ope
 -- ---- the CRC
 
 whole : (c : Cursor) (p : Telegram) (s right : ℕ) (rest : List ℕ) → s ≡ right
-    → Ends (headOf p) (bytesOf (p .load)) rest (record { step = ended c p (Whole (eqb s right)); rest = rest })
+    → GivesBack (headOf p) (bytesOf (p .load)) rest (record { step = ended c p (Whole (eqb s right)); rest = rest })
 unfolding ended
-whole c p s right rest e = record { outcome = ap Whole (eq-eqb s right e); head = refl; bytes = refl; left = refl }
+whole c p s right rest e = record { outcome = ap Whole (eq-eqb s right e); head = refl; bytes = refl; rest = refl }
 
 crc-byte : (at register nn : ℕ) (p : Telegram) (s : ℕ) → (kindOf s ≡ Count) ⊎ (kindOf s ≡ Plain)
     → readOne (here at register nn Crc false) p s ≡ ended (here at register nn Crc false) p (Whole (eqb s register))
-unfolding readOne readOther readCrc undo undoFirst
+unfolding readOne readPlace readCrc undo undoFirst
 crc-byte at register nn p s (inl e) = rw (e, e)
 crc-byte at register nn p s (inr e) = rw (e, e)
 
 crc-ends : (at register nn : ℕ) (p : Telegram) (rest : List ℕ)
-    → Ends (headOf p) (bytesOf (p .load)) rest (readAll (here at register nn Crc false) p (expandOne register ++ rest))
-unfolding expandOne readOne readEscape readOther readCrc undo undoFirst undoSecond kindOf
+    → GivesBack (headOf p) (bytesOf (p .load)) rest (readAll (here at register nn Crc false) p (expandOne register ++ rest))
+unfolding expandOne readOne readPlace readCrc undo undoFirst undoSecond kindOf
 crc-ends at register nn p rest = go (kindOf register) refl
   where
     c : Cursor
     c = here at register nn Crc false
 
     paired : (s : ℕ) → readOne (crcOpened c) p s ≡ ended (crcOpened c) p (Whole (eqb register register))
-        → Ends (headOf p) (bytesOf (p .load)) rest (readAll c p (0xA9 ∷ s ∷ rest))
+        → GivesBack (headOf p) (bytesOf (p .load)) rest (readAll c p (0xA9 ∷ s ∷ rest))
     paired s e =
         rw (goes-on c (crcOpened c) p p 0xA9 (s ∷ rest) refl, ends (crcOpened c) p s rest (eqb register register) e)
         (whole (crcOpened c) p register register rest refl)
 
     single : (kindOf register ≡ Count) ⊎ (kindOf register ≡ Plain)
-        → Ends (headOf p) (bytesOf (p .load)) rest (readAll c p (register ∷ rest))
+        → GivesBack (headOf p) (bytesOf (p .load)) rest (readAll c p (register ∷ rest))
     single k =
         rw (ends c p register rest (eqb register register) (crc-byte at register nn p register k)) (whole c p register register rest refl)
 
-    go : (k : Kind) → kindOf register ≡ k → Ends (headOf p) (bytesOf (p .load)) rest (readAll c p (expandAs k register ++ rest))
+    go : (k : Kind) → kindOf register ≡ k → GivesBack (headOf p) (bytesOf (p .load)) rest (readAll c p (expandAs k register ++ rest))
     go Syn e = paired 0x01 (rw (kind-syn register .0 e))
     go Escape e = paired 0x00 (rw (kind-escape register .0 e))
     go Count e = single (inl e)
@@ -98,7 +91,7 @@ module _ (at register nn read : ℕ) (p : Telegram) (ss : List ℕ) (room : read
 
   data-byte : (s : ℕ) → (kindOf s ≡ Count) ⊎ (kindOf s ≡ Plain)
       → readOne (before-byte false at register) p s ≡ more (after-byte ((at + 1) % 2 ^ 8) (crcStep register s)) (withByte p read s)
-  unfolding readOne readOther readData readByte undo undoFirst onward
+  unfolding readOne readPlace readData readByte undo undoFirst onward
   data-byte s (inl e) = rw (e, e, lt-ltb read 16 room)
   data-byte s (inr e) = rw (e, e, lt-ltb read 16 room)
 
@@ -106,7 +99,7 @@ module _ (at register nn read : ℕ) (p : Telegram) (ss : List ℕ) (room : read
   data-on : (P : Read → Type 0) (b : ℕ)
       → ((n : ℕ) → P (readAll (after-byte n (crcFrom register (expandOne b))) (withByte p read b) ss))
       → P (readAll (before-byte false at register) p (expandOne b ++ ss))
-  unfolding expandOne crcFrom readOne readEscape readOther readData readByte undo undoFirst undoSecond onward kindOf
+  unfolding expandOne crcFrom readOne readPlace readData readByte undo undoFirst undoSecond onward kindOf
   data-on P b f = go (kindOf b) refl f
     where
       paired : (s : ℕ) → readOne (before-byte true ((at + 1) % 2 ^ 8) (crcStep register 0xA9)) p s
@@ -136,7 +129,7 @@ regroup a b c d = ap (λ (l : List ℕ). l ++ d) (append-assoc a b c) ∙ append
 -- the data bytes that are left, and the CRC
 tail-ends : (bs : List ℕ) (at register nn read : ℕ) (p : Telegram) (rest : List ℕ) → Sixteen (p .load)
     → nn ≡ p .load .nn → nn ≤ 16 → read + length bs ≡ nn
-    → Ends (headOf p) (take read (p .load .bytes) ++ bs) rest
+    → GivesBack (headOf p) (take read (p .load .bytes) ++ bs) rest
     (readAll (here at register nn (placeAfter read nn) false) p ((expand bs ++ expandOne (crcFrom register (expand bs))) ++ rest))
 unfolding expand crcFrom placeAfter
 tail-ends [] at register nn read p rest full same most e =
@@ -153,16 +146,16 @@ tail-ends (b ∷ bs) at register nn read p rest full same most e =
     ∙ ap (λ (l : List ℕ). l ++ bs) (take-suc-set array read b (omega arith)) ∙ append-assoc (take read array) (b ∷ []) bs in
     rw (lt-ltb read nn (omega arith), feed-append register (expandOne b) (expand bs), regroup (expandOne b) (expand bs) (expandOne k) rest)
     (data-on at register nn read p ((expand bs ++ expandOne k) ++ rest) (omega arith)
-    (Ends (headOf p) (take read array ++ (b ∷ bs)) rest) b
+    (GivesBack (headOf p) (take read array ++ (b ∷ bs)) rest) b
     (λ n. with-bytes seam
     (tail-ends bs n reg nn (read + 1) (withByte p read b) rest (length-set array read b ∙ full) same most (omega arith))))
 
 -- ---- from NN on, for master parts and answers alike
 
 pub nn-ends : (at register nn : ℕ) (p : Telegram) (bs rest : List ℕ) → Sixteen (p .load) → length bs ≤ 16
-    → Ends (headOf p) bs rest
+    → GivesBack (headOf p) bs rest
     (readAll (here at register nn Nn false) p ((length bs ∷ expand bs) ++ expandOne (crcFrom register (length bs ∷ expand bs)) ++ rest))
-unfolding crcFrom readOne readOther readNn onward
+unfolding crcFrom readOne readPlace readNn onward
 nn-ends at register nn p bs rest full most =
     let n = length bs in
     rw (goes-on (here at register nn Nn false) (here ((at + 1) % 2 ^ 8) (crcStep register n) n (placeAfter 0 n) false) p (withNn p n) n

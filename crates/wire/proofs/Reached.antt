@@ -5,8 +5,9 @@ use mathlib.Core.Logic.{⊎-elim}
 use mathlib.Core.Bool.{true}
 use mathlib.Core.List.{List, [], _∷_, _++_, append-assoc, append-nil}
 use Prim.Native.Nat.{ℕ}
-use Rattle.wire.specs.Reader.{more, readOne}
-use Rattle.wire.specs.Reading.{Sixteen, Read, readAll, Message, SameMessage, ReadBack, Which, startOf, formOf, readInto, If-master}
+use Rattle.wire.specs.Reader.{startOf, more, readOne}
+use Rattle.wire.specs.Reading.{Sixteen, Read, readAll, Message, SameMessage, ReadBack, formOf, readInto, If-master}
+use Rattle.wire.specs.declared.part.Part.{Part}
 use Rattle.wire.specs.declared.part.Telegram.{Telegram}
 use Rattle.wire.specs.declared.reader.Cursor.{Cursor}
 use Rattle.wire.specs.declared.reader.Outcome.the-variants.{More, Whole}
@@ -48,7 +49,7 @@ reached-more c₀ c p₀ p xs s e m =
     reads-on c₀ c p₀ p xs (s ∷ []) e ∙ first-more c p s [] m ∙ reached-none (readOne c p s .cursor) (readOne c p s .part)
 
 -- what is reached from the start is read so far
-so-far-on : (w : Which) (c₀ c : Cursor) (p₀ p : Telegram) (zs xs : List ℕ) → SoFar w c₀ p₀ zs → Reached c₀ p₀ xs c p
+so-far-on : (w : Part) (c₀ c : Cursor) (p₀ p : Telegram) (zs xs : List ℕ) → SoFar w c₀ p₀ zs → Reached c₀ p₀ xs c p
     → SoFar w c p (zs ++ xs)
 unfolding readAll more
 so-far-on w c₀ c p₀ p zs [] h e =
@@ -60,13 +61,13 @@ so-far-on w c₀ c p₀ p zs (s ∷ xs) h e =
     rw (append-assoc zs (s ∷ []) xs) at
     (so-far-on w (r .cursor) c (r .part) p (zs ++ (s ∷ [])) xs (step-more h s m) (sym (first-more c₀ p₀ s xs m) ∙ e))
 
-pub reached-so-far : (w : Which) (c : Cursor) (p₀ p : Telegram) (xs : List ℕ) → Sixteen (p₀ .load) → Reached (startOf w) p₀ xs c p
+pub reached-so-far : (w : Part) (c : Cursor) (p₀ p : Telegram) (xs : List ℕ) → Sixteen (p₀ .load) → Reached (startOf w) p₀ xs c p
     → SoFar w c p xs
 reached-so-far w c p₀ p xs full e = so-far-on w (startOf w) c p₀ p [] xs (start w p₀ full) e
 
 -- a reader that has read the symbols xs of the wire form of t, from the start on and with p₀ in its memory then: what the next
 -- symbol s gives it
-module _ (w : Which) (t p₀ p : Telegram) (c : Cursor) (xs : List ℕ) (s : ℕ) (fit : If-master w (Message t)) (full : Sixteen (t .load))
+module _ (w : Part) (t p₀ p : Telegram) (c : Cursor) (xs : List ℕ) (s : ℕ) (fit : If-master w (Message t)) (full : Sixteen (t .load))
     (array : Sixteen (p₀ .load)) (reached : Reached (startOf w) p₀ xs c p) where
   rest-read : (ys : List ℕ) → formOf w t ≡ xs ++ (s ∷ ys) → ReadBack (readInto w p₀ t) [] (readAll c p (s ∷ ys))
   rest-read ys e =

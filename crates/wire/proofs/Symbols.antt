@@ -8,7 +8,9 @@ use lib.ListN.{length, getD, length-append, length-take}
 use Rattle.address.proofs.Masters.{master-no-other-use}
 use Rattle.wire.specs.Pair.{expandAs, expandOne, expand}
 use Rattle.wire.specs.Form.{room, covered, form, bytesOf, telegramForm, answerForm}
-use Rattle.wire.specs.Reading.{Sixteen, Message, NoSyn, none, next, Which, master, answer, before, formOf, If-master}
+use Rattle.wire.specs.Reading.{Sixteen, Message, NoSyn, none, next, before, formOf, If-master}
+use Rattle.wire.specs.declared.part.Part.{Part}
+use Rattle.wire.specs.declared.part.Part.the-variants.{MasterPart, AnswerPart}
 use Rattle.wire.specs.declared.part.Load.{Load}
 use Rattle.wire.specs.declared.part.Telegram.{Telegram}
 use Rattle.wire.proofs.Expand.{length-one, length-expand}
@@ -84,19 +86,19 @@ unfolding form covered
 no-syn-form head bytes clear h =
     no-syn-append (no-syn-append clear (next (omega arith) (no-syn-expand bytes))) (no-syn-one _)
 
-heading-no-syn : (w : Which) (t : Telegram) → If-master w (Message t) → NoSyn (before w t)
-heading-no-syn master t m =
+heading-no-syn : (w : Part) (t : Telegram) → If-master w (Message t) → NoSyn (before w t)
+heading-no-syn MasterPart t m =
     next (master-no-other-use (t .qq) (m .qq) .1) (next (m .zz .notSyn) (next (m .pb .notSyn) (next (m .sb .notSyn) none)))
-heading-no-syn answer t m = none
+heading-no-syn AnswerPart t m = none
 
 -- no symbol of a message's wire form is AA, nor of any answer's
-pub no-syn : (w : Which) (t : Telegram) → If-master w (Message t) → Sixteen (t .load) → NoSyn (formOf w t)
+pub no-syn : (w : Part) (t : Telegram) → If-master w (Message t) → Sixteen (t .load) → NoSyn (formOf w t)
 no-syn w t m full = no-syn-form (before w t) (bytesOf (t .load)) (heading-no-syn w t m) (at-most-16 (t .load) full)
 
 -- in the words of the code
 pub telegram-no-syn : (t : Telegram) → Message t → Sixteen (t .load) → NoSyn (telegramForm t)
 unfolding telegramForm
-telegram-no-syn t m full = no-syn master t m full
+telegram-no-syn t m full = no-syn MasterPart t m full
 
 pub answer-no-syn : (l : Load) → Sixteen l → NoSyn (answerForm l)
 unfolding answerForm

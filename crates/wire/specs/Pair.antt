@@ -24,6 +24,7 @@ unfoldable pub expand : List ℕ → List ℕ
 expand [] = []
 expand (b ∷ bs) = expandOne b ++ expand bs
 
+-- (AA stands for nothing here and after an A9: the reader ends on it before it undoes anything)
 abbrev pub undoAs : Kind → ℕ → Undone
 undoAs Syn s = Broken
 undoAs Escape s = Opens

@@ -5,13 +5,16 @@ use lib.Dec.{eqb, ltb}
 use lib.ListN.{set}
 use Rattle.crc.specs.Crc.{crcStep}
 use Rattle.address.specs.Master.{isMaster}
-use Rattle.wire.specs.Symbol.{kindOf}
+use Rattle.wire.specs.Load.{mostData}
+use Rattle.wire.specs.Symbol.{kindOf, isEscape, isCount}
 use Rattle.wire.specs.Pair.{undo}
 use Rattle.wire.specs.declared.symbol.Kind.{Kind}
 use Rattle.wire.specs.declared.symbol.Kind.the-variants.{Syn, Escape, Count, Plain}
 use Rattle.wire.specs.declared.pair.Undone.{Undone}
 use Rattle.wire.specs.declared.pair.Undone.the-variants.{Byte, Opens, Broken}
 use Rattle.wire.specs.declared.part.Load.{Load}
+use Rattle.wire.specs.declared.part.Part.{Part}
+use Rattle.wire.specs.declared.part.Part.the-variants.{MasterPart, AnswerPart}
 use Rattle.wire.specs.declared.part.Telegram.{Telegram}
 use Rattle.wire.specs.declared.reader.Place.{Place}
 use Rattle.wire.specs.declared.reader.Place.the-variants.{Qq, Zz, Pb, Sb, Nn, Data, Crc}
@@ -20,12 +23,20 @@ use Rattle.wire.specs.declared.reader.Outcome.{Outcome}
 use Rattle.wire.specs.declared.reader.Outcome.the-variants.{More, Cut, NoMaster, Unusable, TooLong, BrokenPair, Whole}
 use Rattle.wire.specs.declared.reader.Step.{Step}
 
--- a master part begins with QQ, an answer with NN; the register starts at 0
+-- before the first symbol; the register starts at 0
+abbrev pub startAt : Place → Cursor
+startAt place = record { at = 0; place = place; opened = false; register = 0; nn = 0 }
+
+-- a master part begins with QQ, an answer with NN
 unfoldable pub masterStart : Cursor
-masterStart = record { at = 0; place = Qq; opened = false; register = 0; nn = 0 }
+masterStart = startAt Qq
 
 unfoldable pub answerStart : Cursor
-answerStart = record { at = 0; place = Nn; opened = false; register = 0; nn = 0 }
+answerStart = startAt Nn
+
+abbrev pub startOf : Part → Cursor
+startOf MasterPart = masterStart
+startOf AnswerPart = answerStart
 
 -- the part with one of its symbols read
 abbrev pub withQq : Telegram → ℕ → Telegram
@@ -74,11 +85,17 @@ counted c n = record { at = c .at; place = c .place; opened = c .opened; registe
 unfoldable pub placeAfter : ℕ → ℕ → Place
 placeAfter read nn = cond (ltb read nn) (Data read) Crc
 
--- QQ is a master address, or the reading is over
+-- ---- a symbol other than AA, by its place in the part
+
+-- QQ is a master address
 unfoldable pub readQq : Cursor → Telegram → ℕ → Step
 readQq c p s = cond (isMaster s) (more (onward c s Zz false) (withQq p s)) (ended c p NoMaster)
 
--- NN is at most 16, or the reading is over
+-- ZZ, PB and SB are anything but A9
+unfoldable pub readHead : Cursor → Telegram → ℕ → Bool → Place → Telegram → Step
+readHead c p s escape next q = cond escape (ended c p Unusable) (more (onward c s next false) q)
+
+-- NN is at most 16
 unfoldable pub readNn : Cursor → Telegram → ℕ → Bool → Step
 readNn c p s counts =
     cond counts (more (counted (onward c s (placeAfter 0 s) false) s) (withNn p s)) (ended c p TooLong)
@@ -86,11 +103,11 @@ readNn c p s counts =
 -- a data byte takes its place, and there are 16 at most
 unfoldable pub readByte : Cursor → Telegram → ℕ → ℕ → ℕ → Step
 readByte c p read s b =
-    cond (ltb read 16)
+    cond (ltb read mostData)
     (more (onward c s (placeAfter (read + 1) (c .nn)) false) (withByte p read b))
     (ended c p TooLong)
 
--- a symbol of the data: a byte, the first of a pair, or the wrong second
+-- data: a byte, the first of a pair, or the wrong second
 abbrev pub dataAs : Undone → Cursor → Telegram → ℕ → ℕ → Step
 dataAs (Byte b) c p read s = readByte c p read s b
 dataAs Opens c p read s = more (onward c s (Data read) true) p
@@ -99,7 +116,7 @@ dataAs Broken c p read s = ended c p BrokenPair
 unfoldable pub readData : Cursor → Telegram → ℕ → ℕ → Step
 readData c p read s = dataAs (undo (c .opened) s) c p read s
 
--- a symbol of the CRC, likewise; the part is whole, and the CRC matches or is wrong
+-- CRC, likewise: the part is whole, and the CRC matches or is wrong
 abbrev pub crcAs : Undone → Cursor → Telegram → Step
 crcAs (Byte b) c p = ended c p (Whole (eqb b (c .register)))
 crcAs Opens c p = more (crcOpened c) p
@@ -108,38 +125,27 @@ crcAs Broken c p = ended c p BrokenPair
 unfoldable pub readCrc : Cursor → Telegram → ℕ → Step
 readCrc c p s = crcAs (undo (c .opened) s) c p
 
--- A9: no master address; not usable as ZZ, PB or SB; as NN above 16; in data and CRC the first of a pair
-abbrev pub escapeAt : Place → Cursor → Telegram → ℕ → Step
-escapeAt Qq c p s = ended c p NoMaster
-escapeAt Zz c p s = ended c p Unusable
-escapeAt Pb c p s = ended c p Unusable
-escapeAt Sb c p s = ended c p Unusable
-escapeAt Nn c p s = ended c p TooLong
-escapeAt (Data read) c p s = readData c p read s
-escapeAt Crc c p s = readCrc c p s
+-- QQ, ZZ, PB, SB, NN, data, CRC; the symbol's kind says whether it is A9 and whether it is a count
+abbrev pub readAt : Place → Cursor → Telegram → ℕ → Kind → Step
+readAt Qq c p s k = readQq c p s
+readAt Zz c p s k = readHead c p s (isEscape k) Pb (withZz p s)
+readAt Pb c p s k = readHead c p s (isEscape k) Sb (withPb p s)
+readAt Sb c p s k = readHead c p s (isEscape k) Nn (withSb p s)
+readAt Nn c p s k = readNn c p s (isCount k)
+readAt (Data read) c p s k = readData c p read s
+readAt Crc c p s k = readCrc c p s
 
-unfoldable pub readEscape : Cursor → Telegram → ℕ → Step
-readEscape c p s = escapeAt (c .place) c p s
+unfoldable pub readPlace : Cursor → Telegram → ℕ → Kind → Step
+readPlace c p s k = readAt (c .place) c p s k
 
--- any other symbol, by its place in the part
-abbrev pub otherAt : Place → Cursor → Telegram → ℕ → Bool → Step
-otherAt Qq c p s counts = readQq c p s
-otherAt Zz c p s counts = more (onward c s Pb false) (withZz p s)
-otherAt Pb c p s counts = more (onward c s Sb false) (withPb p s)
-otherAt Sb c p s counts = more (onward c s Nn false) (withSb p s)
-otherAt Nn c p s counts = readNn c p s counts
-otherAt (Data read) c p s counts = readData c p read s
-otherAt Crc c p s counts = readCrc c p s
+-- ---- one symbol more
 
-unfoldable pub readOther : Cursor → Telegram → ℕ → Bool → Step
-readOther c p s counts = otherAt (c .place) c p s counts
-
--- one symbol more: AA always ends the reading
+-- AA always ends the reading, wherever it stands
 abbrev pub readAs : Kind → Cursor → Telegram → ℕ → Step
 readAs Syn c p s = ended c p Cut
-readAs Escape c p s = readEscape c p s
-readAs Count c p s = readOther c p s true
-readAs Plain c p s = readOther c p s false
+readAs Escape c p s = readPlace c p s Escape
+readAs Count c p s = readPlace c p s Count
+readAs Plain c p s = readPlace c p s Plain
 
 unfoldable pub readOne : Cursor → Telegram → ℕ → Step
 readOne c p s = readAs (kindOf s) c p s

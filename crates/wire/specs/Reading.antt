@@ -8,8 +8,10 @@ use mathlib.Core.List.{List, [], _∷_}
 use lib.ListN.{length}
 use Rattle.address.specs.Master.{isMaster}
 use Rattle.wire.specs.Form.{form, headOf, bytesOf}
-use Rattle.wire.specs.Reader.{masterStart, answerStart, withLoad, more, readOne}
+use Rattle.wire.specs.Reader.{withLoad, more, readOne}
 use Rattle.wire.specs.declared.part.Load.{Load}
+use Rattle.wire.specs.declared.part.Part.{Part}
+use Rattle.wire.specs.declared.part.Part.the-variants.{MasterPart, AnswerPart}
 use Rattle.wire.specs.declared.part.Telegram.{Telegram}
 use Rattle.wire.specs.declared.reader.Cursor.{Cursor}
 use Rattle.wire.specs.declared.reader.Outcome.{Outcome}
@@ -68,6 +70,17 @@ pub record SameMessage (u t : Telegram) : Type 0 where
   pub head : headOf u ≡ headOf t
   pub bytes : bytesOf (u .load) ≡ bytesOf (t .load)
 
+-- a reading that came to its end, and what it gave
+pub record GivesBack (hs bs left : List ℕ) (r : Read) : Type 0 where
+  -- a whole part, its CRC right
+  pub outcome : r .step .outcome ≡ Whole true
+  -- in the reader's memory these are QQ, ZZ, PB, SB
+  pub head : headOf (r .step .part) ≡ hs
+  -- and these, all of them, the data bytes
+  pub bytes : bytesOf (r .step .part .load) ≡ bs
+  -- these symbols, behind the part, are left unread
+  pub rest : r .rest ≡ left
+
 -- the reading ended with a whole part, its CRC right: the message t, and these symbols behind it left unread
 pub record ReadBack (t : Telegram) (left : List ℕ) (r : Read) : Type 0 where
   pub outcome : r .step .outcome ≡ Whole true
@@ -79,35 +92,25 @@ pub data NoSyn : List ℕ → Type 0 where
   none : NoSyn []
   next : {s : ℕ} {ss : List ℕ} → s ≢ 0xAA → NoSyn ss → NoSyn (s ∷ ss)
 
--- which part is read: a master part, whose first symbol is QQ, or an answer, whose first symbol is NN
-pub data Which : Type 0 where
-  master : Which
-  answer : Which
-
--- where the reader starts
-abbrev pub startOf : Which → Cursor
-startOf master = masterStart
-startOf answer = answerStart
-
 -- of what stands before NN an answer has nothing
-abbrev pub only : Which → List ℕ → List ℕ
-only master head = head
-only answer head = []
+abbrev pub only : Part → List ℕ → List ℕ
+only MasterPart head = head
+only AnswerPart head = []
 
 -- what stands before NN
-abbrev pub before : Which → Telegram → List ℕ
+abbrev pub before : Part → Telegram → List ℕ
 before w t = only w (headOf t)
 
 -- the wire form: of a master part `telegramForm t`, of an answer `answerForm (t .load)`
-abbrev pub formOf : Which → Telegram → List ℕ
+abbrev pub formOf : Part → Telegram → List ℕ
 formOf w t = form (before w t) (bytesOf (t .load))
 
 -- what stands in a reader's memory, p before, once it has read t: an answer leaves QQ ZZ PB SB as they stood
-abbrev pub readInto : Which → Telegram → Telegram → Telegram
-readInto master p t = t
-readInto answer p t = withLoad p (t .load)
+abbrev pub readInto : Part → Telegram → Telegram → Telegram
+readInto MasterPart p t = t
+readInto AnswerPart p t = withLoad p (t .load)
 
 -- of a master part this is asked or told, of an answer nothing
-abbrev pub If-master : Which → Type 0 → Type 0
-If-master master A = A
-If-master answer A = Unit {0}
+abbrev pub If-master : Part → Type 0 → Type 0
+If-master MasterPart A = A
+If-master AnswerPart A = Unit {0}

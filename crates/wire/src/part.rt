@@ -1,11 +1,18 @@
 // A master part and an answer as their users have them.
 ghost use mathlib.Core.Path.{_≡_};
 ghost use Rattle.wire.specs.Load.{emptyLoad, fitting, loadOf};
+ghost use Rattle.wire.specs.Part.{isMasterPart, isAnswerPart};
 
-// What a part carries: the first `nn` of `bytes`, 16 at most.
+// Which part of a transfer: the master sends the one and reads the other.
+pub enum Part {
+    MasterPart,
+    AnswerPart,
+}
+
+// What a part carries: the first `nn` of `bytes`.
 pub struct Load {
     pub nn: u8,
-    pub bytes: [u8; 16],
+    pub bytes: [u8; Load::MOST],
 }
 
 // A master part. An answer is a load alone.
@@ -21,16 +28,39 @@ pub struct Telegram {
 pub(crate) fn fitting(len: usize) -> u8
     ensures { λ r. ⌜ r ≡ fitting len ⌝ }
 {
-    laws::at_most(len, 16) as u8
+    laws::at_most(len, Load::MOST) as u8
+}
+
+impl Part {
+    pub fn is_master(self) -> bool
+        ensures { λ r. ⌜ r ≡ isMasterPart self ⌝ }
+    {
+        match self {
+            Part::MasterPart => true,
+            Part::AnswerPart => false,
+        }
+    }
+
+    pub fn is_answer(self) -> bool
+        ensures { λ r. ⌜ r ≡ isAnswerPart self ⌝ }
+    {
+        match self {
+            Part::MasterPart => false,
+            Part::AnswerPart => true,
+        }
+    }
 }
 
 impl Load {
+    // A part carries at most 16 data bytes.
+    pub const MOST: usize = 16;
+
     pub fn empty() -> Load
         ensures { λ r. ⌜ r ≡ emptyLoad ⌝ }
     {
         Load {
             nn: 0,
-            bytes: [0; 16],
+            bytes: [0; Load::MOST],
         }
     }
 
@@ -40,7 +70,7 @@ impl Load {
     {
         let nn = fitting(s.len());
         let n = nn as usize;
-        let mut bytes = [0u8; 16];
+        let mut bytes = [0u8; Load::MOST];
         let mut i: usize = 0;
         while i < n {
             bytes[i] = s[i];

@@ -1,10 +1,11 @@
 // The reader of a part, one symbol at a time (01, "Wire form" and "Reading"). It knows nothing of stations.
 ghost use mathlib.Core.Path.{_≡_};
 ghost use mathlib.Core.Bool.{true, false};
-ghost use Rattle.wire.specs.Reader.{placeAfter, masterStart, answerStart, readOne, ended, onward, more, readEscape, readOther, readQq, readNn, readData, readByte, readCrc};
+ghost use Rattle.wire.specs.Reader.{placeAfter, startAt, startOf, ended, onward, more, readQq, readHead, readNn, readByte, readData, readCrc, readPlace, readOne};
 use crate::pair;
 use crate::pair::Undone;
 use crate::part::Load;
+use crate::part::Part;
 use crate::part::Telegram;
 use crate::symbol;
 use crate::symbol::Kind;
@@ -67,41 +68,37 @@ fn place_after(read: u8, nn: u8) -> Place
 }
 
 impl Cursor {
-    // A master part begins with QQ.
-    pub fn master() -> Cursor
-        ensures { λ r. ⌜ r ≡ masterStart ⌝ }
+    // A master part begins with QQ, an answer with NN.
+    pub fn start(part: Part) -> Cursor
+        ensures { λ r. ⌜ r ≡ startOf part ⌝ }
+    {
+        match part {
+            Part::MasterPart => Cursor::from(Place::Qq),
+            Part::AnswerPart => Cursor::from(Place::Nn),
+        }
+    }
+
+    fn from(place: Place) -> Cursor
+        ensures { λ r. ⌜ r ≡ startAt place ⌝ }
     {
         Cursor {
             at: 0,
-            place: Place::Qq,
+            place: place,
             opened: false,
             register: 0,
             nn: 0,
         }
     }
 
-    // An answer begins with NN.
-    pub fn answer() -> Cursor
-        ensures { λ r. ⌜ r ≡ answerStart ⌝ }
-    {
-        Cursor {
-            at: 0,
-            place: Place::Nn,
-            opened: false,
-            register: 0,
-            nn: 0,
-        }
-    }
-
-    // One symbol more of the part.
+    // One symbol more of the part; AA always ends the reading.
     pub fn read(self, part: Telegram, s: u8) -> Step
         ensures { λ r. ⌜ r ≡ readOne self part s ⌝ }
     {
         match symbol::kind_of(s) {
             Kind::Syn => self.ended(part, Outcome::Cut),
-            Kind::Escape => self.read_escape(part, s),
-            Kind::Count => self.read_other(part, s, true),
-            Kind::Plain => self.read_other(part, s, false),
+            Kind::Escape => self.read_place(part, s, Kind::Escape),
+            Kind::Count => self.read_place(part, s, Kind::Count),
+            Kind::Plain => self.read_place(part, s, Kind::Plain),
         }
     }
 
@@ -140,36 +137,35 @@ impl Cursor {
         }
     }
 
-    // A9 can begin a pair in data and CRC alone; in the place of NN it is a count above 16.
-    fn read_escape(self, part: Telegram, s: u8) -> Step
-        ensures { λ r. ⌜ r ≡ readEscape self part s ⌝ }
-    {
-        let place = self.place;
-        match place {
-            Place::Qq => self.ended(part, Outcome::NoMaster),
-            Place::Zz => self.ended(part, Outcome::Unusable),
-            Place::Pb => self.ended(part, Outcome::Unusable),
-            Place::Sb => self.ended(part, Outcome::Unusable),
-            Place::Nn => self.ended(part, Outcome::TooLong),
-            Place::Data(read) => self.read_data(part, read, s),
-            Place::Crc => self.read_crc(part, s),
-        }
-    }
-
-    // A symbol that is neither SYN nor the escape; `counts`: it is at most 16.
-    fn read_other(self, part: Telegram, s: u8, counts: bool) -> Step
-        ensures { λ r. ⌜ r ≡ readOther self part s counts ⌝ }
+    // QQ, ZZ, PB, SB, NN, data, CRC.
+    fn read_place(self, part: Telegram, s: u8, kind: Kind) -> Step
+        ensures { λ r. ⌜ r ≡ readPlace self part s kind ⌝ }
     {
         let place = self.place;
         match place {
             Place::Qq => self.read_qq(part, s),
-            Place::Zz => self.onward(s, Place::Pb, false)
-                .more(Telegram { zz: s, ..part }),
-            Place::Pb => self.onward(s, Place::Sb, false)
-                .more(Telegram { pb: s, ..part }),
-            Place::Sb => self.onward(s, Place::Nn, false)
-                .more(Telegram { sb: s, ..part }),
-            Place::Nn => self.read_nn(part, s, counts),
+            Place::Zz => self.read_head(
+                part,
+                s,
+                kind.is_escape(),
+                Place::Pb,
+                Telegram { zz: s, ..part },
+            ),
+            Place::Pb => self.read_head(
+                part,
+                s,
+                kind.is_escape(),
+                Place::Sb,
+                Telegram { pb: s, ..part },
+            ),
+            Place::Sb => self.read_head(
+                part,
+                s,
+                kind.is_escape(),
+                Place::Nn,
+                Telegram { sb: s, ..part },
+            ),
+            Place::Nn => self.read_nn(part, s, kind.is_count()),
             Place::Data(read) => self.read_data(part, read, s),
             Place::Crc => self.read_crc(part, s),
         }
@@ -183,6 +179,17 @@ impl Cursor {
                 .more(Telegram { qq: s, ..part })
         } else {
             self.ended(part, Outcome::NoMaster)
+        }
+    }
+
+    // ZZ, PB and SB are anything but A9; `next` is the place behind it.
+    fn read_head(self, part: Telegram, s: u8, escape: bool, next: Place, with: Telegram) -> Step
+        ensures { λ r. ⌜ r ≡ readHead self part s escape next with ⌝ }
+    {
+        if escape {
+            self.ended(part, Outcome::Unusable)
+        } else {
+            self.onward(s, next, false).more(with)
         }
     }
 
@@ -216,8 +223,8 @@ impl Cursor {
     fn read_byte(self, part: Telegram, read: u8, s: u8, b: u8) -> Step
         ensures { λ r. ⌜ r ≡ readByte self part read s b ⌝ }
     {
-        if read < 16 {
-            let i = read as usize;
+        let i = read as usize;
+        if i < Load::MOST {
             let mut load = part.load;
             load.bytes[i] = b;
             let nn = self.nn;

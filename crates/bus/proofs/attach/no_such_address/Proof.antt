@@ -4,8 +4,8 @@ use borrow.Author.Needs.{needs}
 use Rattle.bus.proofs.attach.no_such_address.Statement.{statement}
 use Rattle.bus.proofs.attach.no_such_address.Tie as tie
 
-kind-of-requires : tie.Need-kind-of-requires
-kind-of-requires c κs = search needs
+role-of-requires : tie.Need-role-of-requires
+role-of-requires c κs = search needs
 
 enum-told : tie.Need-enum-told
 enum-told c = search needs
@@ -25,7 +25,7 @@ returns c =
     simp (
       c .if1 .taken,
       c .before .enum-told .given .1,
-      ← c .before .before .before .kind-of .ensures,
+      ← c .before .before .before .role-of .ensures,
     )
 
 returns-2 : tie.Need-returns-2
@@ -34,7 +34,7 @@ returns-2 c =
     simp (
       c .if1 .left,
       c .before .enum-told .given .1,
-      ← c .before .before .before .kind-of .ensures,
+      ← c .before .before .before .role-of .ensures,
     )
 
 returns-3 : tie.Need-returns-3
@@ -42,7 +42,7 @@ unfolding noSuchAddress
 returns-3 c =
     simp (
       c .enum-told2 .given .1,
-      ← c .before .before .kind-of .ensures,
+      ← c .before .before .role-of .ensures,
     )
 
 returns-4 : tie.Need-returns-4
@@ -50,7 +50,7 @@ unfolding noSuchAddress
 returns-4 c =
     simp (
       c .enum-told3 .given .1,
-      ← c .before .before .kind-of .ensures,
+      ← c .before .before .role-of .ensures,
     )
 
 returns-5 : tie.Need-returns-5
@@ -58,14 +58,14 @@ unfolding noSuchAddress
 returns-5 c =
     simp (
       c .enum-told4 .given .1,
-      ← c .before .before .kind-of .ensures,
+      ← c .before .before .role-of .ensures,
     )
 
 pub no-such-address-spec : {M : Type 1} → statement M
 no-such-address-spec =
     tie.close
     (tie.spec
-    kind-of-requires
+    role-of-requires
     enum-told
     enum-told-2
     enum-told-3

@@ -4,8 +4,8 @@ use borrow.Author.Needs.{needs}
 use Rattle.bus.proofs.queue.unusable.Statement.{statement}
 use Rattle.bus.proofs.queue.unusable.Tie as tie
 
-kind-of-requires : tie.Need-kind-of-requires
-kind-of-requires c κs = search needs
+role-of-requires : tie.Need-role-of-requires
+role-of-requires c κs = search needs
 
 enum-told : tie.Need-enum-told
 enum-told c = search needs
@@ -24,7 +24,7 @@ unfolding unusable
 returns c =
     simp (
       c .enum-told .given .1,
-      ← c .before .before .kind-of .ensures,
+      ← c .before .before .role-of .ensures,
     )
 
 returns-2 : tie.Need-returns-2
@@ -32,7 +32,7 @@ unfolding unusable
 returns-2 c =
     simp (
       c .enum-told2 .given .1,
-      ← c .before .before .kind-of .ensures,
+      ← c .before .before .role-of .ensures,
     )
 
 returns-3 : tie.Need-returns-3
@@ -40,7 +40,7 @@ unfolding unusable
 returns-3 c =
     simp (
       c .enum-told3 .given .1,
-      ← c .before .before .kind-of .ensures,
+      ← c .before .before .role-of .ensures,
     )
 
 returns-4 : tie.Need-returns-4
@@ -48,14 +48,14 @@ unfolding unusable
 returns-4 c =
     simp (
       c .enum-told4 .given .1,
-      ← c .before .before .kind-of .ensures,
+      ← c .before .before .role-of .ensures,
     )
 
 pub unusable-spec : {M : Type 1} → statement M
 unusable-spec =
     tie.close
     (tie.spec
-    kind-of-requires
+    role-of-requires
     enum-told
     enum-told-2
     enum-told-3

@@ -1,5 +1,5 @@
 -- `station::station::Station::addressed` meets its contract. Assumes nothing.
-use Rattle.station.specs.Read.{addressed}
+use Rattle.station.specs.Table.{addressed}
 use borrow.Author.Needs.{needs}
 use Rattle.station.proofs.station.Station.addressed.Statement.{statement}
 use Rattle.station.proofs.station.Station.addressed.Tie as tie

@@ -1,5 +1,5 @@
 -- `station::station::Station::admits` meets its contract. Assumes nothing.
-use Rattle.station.specs.Hear.{admits}
+use Rattle.station.specs.Admission.{admits}
 use borrow.Author.Needs.{needs}
 use Rattle.station.proofs.station.Station.admits.Statement.{statement}
 use Rattle.station.proofs.station.Station.admits.Tie as tie

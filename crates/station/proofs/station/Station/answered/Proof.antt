@@ -1,5 +1,5 @@
 -- `station::station::Station::answered` meets its contract. Assumes nothing.
-use Rattle.station.specs.Read.{answered}
+use Rattle.station.specs.Addressed.{answered}
 use borrow.Author.Needs.{needs}
 use Rattle.station.proofs.station.Station.answered.Statement.{statement}
 use Rattle.station.proofs.station.Station.answered.Tie as tie

@@ -1,5 +1,5 @@
 -- `station::station::Station::bids` meets its contract. Assumes nothing.
-use Rattle.station.specs.Station.{bids}
+use Rattle.station.specs.Admission.{bids}
 use borrow.Author.Needs.{needs}
 use Rattle.station.proofs.station.Station.bids.Statement.{statement}
 use Rattle.station.proofs.station.Station.bids.Tie as tie

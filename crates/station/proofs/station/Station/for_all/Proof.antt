@@ -1,11 +1,11 @@
 -- `station::station::Station::for_all` meets its contract. Assumes nothing.
-use Rattle.station.specs.Read.{forAll}
+use Rattle.station.specs.Addressed.{forAll}
 use borrow.Author.Needs.{needs}
 use Rattle.station.proofs.station.Station.for_all.Statement.{statement}
 use Rattle.station.proofs.station.Station.for_all.Tie as tie
 
-kind-of-requires : tie.Need-kind-of-requires
-kind-of-requires c κs = search needs
+role-of-requires : tie.Need-role-of-requires
+role-of-requires c κs = search needs
 
 enum-told : tie.Need-enum-told
 enum-told c = search needs
@@ -24,7 +24,7 @@ unfolding forAll
 returns c =
     simp (
       c .enum-told .given .1,
-      ← c .before .before .kind-of .ensures,
+      ← c .before .before .role-of .ensures,
     )
 
 returns-2 : tie.Need-returns-2
@@ -32,7 +32,7 @@ unfolding forAll
 returns-2 c =
     simp (
       c .enum-told2 .given .1,
-      ← c .before .before .kind-of .ensures,
+      ← c .before .before .role-of .ensures,
     )
 
 returns-3 : tie.Need-returns-3
@@ -40,7 +40,7 @@ unfolding forAll
 returns-3 c =
     simp (
       c .enum-told3 .given .1,
-      ← c .before .before .kind-of .ensures,
+      ← c .before .before .role-of .ensures,
     )
 
 returns-4 : tie.Need-returns-4
@@ -48,14 +48,14 @@ unfolding forAll
 returns-4 c =
     simp (
       c .enum-told4 .given .1,
-      ← c .before .before .kind-of .ensures,
+      ← c .before .before .role-of .ensures,
     )
 
 pub for-all-spec : {M : Type 1} → statement M
 for-all-spec =
     tie.close
     (tie.spec
-    kind-of-requires
+    role-of-requires
     enum-told
     enum-told-2
     enum-told-3

@@ -1,5 +1,5 @@
 -- `station::station::Station::hand_out` meets its contract. Assumes nothing.
-use Rattle.station.specs.Judge.{handedOut}
+use Rattle.station.specs.Table.{handedOut}
 use borrow.Author.Needs.{needs}
 use Rattle.station.proofs.station.Station.hand_out.Statement.{statement}
 use Rattle.station.proofs.station.Station.hand_out.Tie as tie

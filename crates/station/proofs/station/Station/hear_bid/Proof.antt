@@ -1,6 +1,6 @@
 -- `station::station::Station::hear_bid` meets its contract. Assumes nothing.
 use borrow.Author.Tests.{eq-eqb, ne-eqb}
-use Rattle.station.specs.Send.{hearBid}
+use Rattle.station.specs.Table.{hearBid}
 use borrow.Author.Needs.{needs}
 use Rattle.station.proofs.station.Station.hear_bid.Statement.{statement}
 use Rattle.station.proofs.station.Station.hear_bid.Tie as tie

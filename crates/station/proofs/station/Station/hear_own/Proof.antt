@@ -1,6 +1,8 @@
 -- `station::station::Station::hear_own` meets its contract. Assumes nothing.
 use borrow.Author.Tests.{eq-eqb, ne-eqb}
-use Rattle.station.specs.Send.{hearOwn}
+use mathlib.Core.Path.{sym, _∙_}
+use Rattle.station.specs.Table.{hearOwn}
+use Rattle.station.proofs.Due.{due-within}
 use borrow.Author.Needs.{needs}
 use Rattle.station.proofs.station.Station.hear_own.Statement.{statement}
 use Rattle.station.proofs.station.Station.hear_own.Tie as tie
@@ -11,17 +13,14 @@ due-requires c κs = search needs
 enum-told : tie.Need-enum-told
 enum-told c = search needs
 
-disturbed-requires : tie.Need-disturbed-requires
-disturbed-requires c κs = search needs
+fail-sender-requires : tie.Need-fail-sender-requires
+fail-sender-requires c κs = search needs
 
 enum-known-own : tie.Need-enum-known-own
 enum-known-own c = search needs
 
 sent-requires : tie.Need-sent-requires
-sent-requires c κs = search needs
-
-disturbed-requires-2 : tie.Need-disturbed-requires-2
-disturbed-requires-2 c κs = search needs
+sent-requires c κs = due-within _ _ (sym (c .before .before .before .before .due .ensures) ∙ c .before .before .own .given .1)
 
 returns : tie.Need-returns
 unfolding hearOwn
@@ -33,11 +32,14 @@ returns c =
       ← c .before .before .before .before .before .due .ensures,
     )
 
+fail-sender-requires-2 : tie.Need-fail-sender-requires-2
+fail-sender-requires-2 c κs = search needs
+
 returns-2 : tie.Need-returns-2
 unfolding hearOwn
 returns-2 c =
     simp (
-      c .disturbed .ensures,
+      c .fail-sender .ensures,
       c .before .enum-told .given .1,
       ← c .before .before .before .due .ensures,
     )
@@ -46,7 +48,7 @@ returns-3 : tie.Need-returns-3
 unfolding hearOwn
 returns-3 c =
     simp (
-      c .disturbed2 .ensures,
+      c .fail-sender2 .ensures,
       ne-eqb _ _ (c .before .if1 .left),
       c .before .before .before .own .given .1,
       ← c .before .before .before .before .before .due .ensures,
@@ -58,10 +60,10 @@ hear-own-spec =
     (tie.spec
     due-requires
     enum-told
-    disturbed-requires
+    fail-sender-requires
     enum-known-own
     sent-requires
     returns
-    disturbed-requires-2
+    fail-sender-requires-2
     returns-2
     returns-3)

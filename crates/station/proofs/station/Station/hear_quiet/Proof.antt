@@ -19,8 +19,8 @@ go-requires-2 c κs = search needs
 enum-known-phase : tie.Need-enum-known-phase
 enum-known-phase c = search needs
 
-disturbed-requires : tie.Need-disturbed-requires
-disturbed-requires c κs = search needs
+fail-sender-requires : tie.Need-fail-sender-requires
+fail-sender-requires c κs = search needs
 
 enum-told-3 : tie.Need-enum-told-3
 enum-told-3 c = search needs
@@ -66,7 +66,7 @@ returns-3 : tie.Need-returns-3
 unfolding hearQuiet
 returns-3 c =
     simp (
-      c .disturbed .ensures,
+      c .fail-sender .ensures,
       c .before .before .phase .given .1,
     )
 
@@ -111,7 +111,7 @@ hear-quiet-spec =
     enum-told-2
     go-requires-2
     enum-known-phase
-    disturbed-requires
+    fail-sender-requires
     enum-told-3
     go-requires-3
     enum-known-phase-2

@@ -1,5 +1,5 @@
 -- `station::station::Station::hear_reading` meets its contract. Assumes nothing.
-use Rattle.station.specs.Hear.{hearReading}
+use Rattle.station.specs.Table.{hearReading}
 use borrow.Author.Needs.{needs}
 use Rattle.station.proofs.station.Station.hear_reading.Statement.{statement}
 use Rattle.station.proofs.station.Station.hear_reading.Tie as tie

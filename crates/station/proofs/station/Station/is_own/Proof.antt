@@ -1,6 +1,6 @@
 -- `station::station::Station::is_own` meets its contract. Assumes nothing.
 use borrow.Author.Tests.{eq-eqb, ne-eqb}
-use Rattle.station.specs.Read.{isOwn}
+use Rattle.station.specs.Addressed.{isOwn}
 use borrow.Author.Needs.{needs}
 use Rattle.station.proofs.station.Station.is_own.Statement.{statement}
 use Rattle.station.proofs.station.Station.is_own.Tie as tie

@@ -1,5 +1,5 @@
 -- `station::station::Station::leave` meets its contract. Assumes nothing.
-use Rattle.station.specs.Send.{left}
+use Rattle.station.specs.Table.{left}
 use borrow.Author.Needs.{needs}
 use Rattle.station.proofs.station.Station.leave.Statement.{statement}
 use Rattle.station.proofs.station.Station.leave.Tie as tie

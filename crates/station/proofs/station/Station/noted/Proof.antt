@@ -1,5 +1,5 @@
 -- `station::station::Station::noted` meets its contract. Assumes nothing.
-use Rattle.station.specs.Hear.{noted}
+use Rattle.station.specs.Admission.{noted}
 use borrow.Author.Needs.{needs}
 use Rattle.station.proofs.station.Station.noted.Statement.{statement}
 use Rattle.station.proofs.station.Station.noted.Tie as tie

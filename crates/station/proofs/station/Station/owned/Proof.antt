@@ -1,5 +1,5 @@
 -- `station::station::Station::owned` meets its contract. Assumes nothing.
-use Rattle.station.specs.Send.{owned}
+use Rattle.station.specs.Admission.{owned}
 use borrow.Author.Needs.{needs}
 use Rattle.station.proofs.station.Station.owned.Statement.{statement}
 use Rattle.station.proofs.station.Station.owned.Tie as tie

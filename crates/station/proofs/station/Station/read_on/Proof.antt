@@ -1,5 +1,5 @@
 -- `station::station::Station::read_on` meets its contract. Assumes nothing.
-use mathlib.Core.Path.{_≡_, refl}
+use mathlib.Core.Path.{_≡_}
 use mathlib.Core.List.{[], _∷_}
 use types.Run.{OneOf, miss}
 use denote.Enum.Declared.{tagOf}
@@ -12,7 +12,7 @@ use Rattle.station.specs.declared.phase.Told.the-variants.{Silence}
 use Rattle.station.specs.declared.station.Station.{Station}
 use Rattle.station.specs.declared.station.Turn.{Turn}
 use Rattle.station.specs.Turn.{goes}
-use Rattle.station.specs.Read.{readOnAt, readOn}
+use Rattle.station.specs.Table.{readOnAt, readOn}
 use Rattle.station.proofs.station.Station.read_on.Statement.{statement}
 use Rattle.station.proofs.station.Station.read_on.Tie as tie
 

@@ -1,5 +1,5 @@
 -- `station::station::Station::release` meets its contract. Assumes nothing.
-use Rattle.station.specs.Send.{released}
+use Rattle.station.specs.Table.{released}
 use borrow.Author.Needs.{needs}
 use Rattle.station.proofs.station.Station.release.Statement.{statement}
 use Rattle.station.proofs.station.Station.release.Tie as tie

@@ -1,5 +1,5 @@
 -- `station::station::Station::say_bid` meets its contract. Assumes nothing.
-use Rattle.station.specs.Station.{sayBid}
+use Rattle.station.specs.Admission.{sayBid}
 use borrow.Author.Needs.{needs}
 use Rattle.station.proofs.station.Station.say_bid.Statement.{statement}
 use Rattle.station.proofs.station.Station.say_bid.Tie as tie

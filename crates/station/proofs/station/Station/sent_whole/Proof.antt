@@ -1,5 +1,5 @@
 -- `station::station::Station::sent_whole` meets its contract. Assumes nothing.
-use Rattle.station.specs.Send.{sentWhole}
+use Rattle.station.specs.Table.{sentWhole}
 use borrow.Author.Needs.{needs}
 use Rattle.station.proofs.station.Station.sent_whole.Statement.{statement}
 use Rattle.station.proofs.station.Station.sent_whole.Tie as tie

@@ -1,5 +1,5 @@
 -- `station::station::Station::taken` meets its contract. Assumes nothing.
-use Rattle.station.specs.Send.{taken}
+use Rattle.station.specs.Table.{taken}
 use borrow.Author.Needs.{needs}
 use Rattle.station.proofs.station.Station.taken.Statement.{statement}
 use Rattle.station.proofs.station.Station.taken.Tie as tie
@@ -10,11 +10,22 @@ enum-told c = search needs
 answered-requires : tie.Need-answered-requires
 answered-requires c κs = search needs
 
-answer-requires : tie.Need-answer-requires
-answer-requires c κs = search needs
+start-requires : tie.Need-start-requires
+start-requires c κs = search needs
 
 go-requires : tie.Need-go-requires
 go-requires c κs = search needs
+
+returns : tie.Need-returns
+unfolding taken
+returns c =
+    simp (
+      c .go .ensures,
+      c .before .start .ensures,
+      c .before .before .if1 .taken,
+      ← c .before .before .before .answered .ensures,
+      c .before .before .before .before .enum-told .given .1,
+    )
 
 go-requires-2 : tie.Need-go-requires-2
 go-requires-2 c κs = search needs
@@ -24,17 +35,6 @@ enum-told-2 c = search needs
 
 go-requires-3 : tie.Need-go-requires-3
 go-requires-3 c κs = search needs
-
-returns : tie.Need-returns
-unfolding taken
-returns c =
-    simp (
-      c .go .ensures,
-      c .before .answer .ensures,
-      c .before .before .if1 .taken,
-      ← c .before .before .before .answered .ensures,
-      c .before .before .before .before .enum-told .given .1,
-    )
 
 returns-2 : tie.Need-returns-2
 unfolding taken
@@ -60,7 +60,7 @@ taken-spec =
     (tie.spec
     enum-told
     answered-requires
-    answer-requires
+    start-requires
     go-requires
     returns
     go-requires-2

@@ -1,5 +1,5 @@
 -- `station::station::Station::whole` meets its contract. Assumes nothing.
-use Rattle.station.specs.Read.{whole}
+use Rattle.station.specs.Table.{whole}
 use borrow.Author.Needs.{needs}
 use Rattle.station.proofs.station.Station.whole.Statement.{statement}
 use Rattle.station.proofs.station.Station.whole.Tie as tie

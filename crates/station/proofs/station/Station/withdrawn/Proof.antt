@@ -1,6 +1,6 @@
 -- `station::station::Station::withdrawn` meets its contract. Assumes nothing.
 use mathlib.Core.Path.{refl}
-use Rattle.station.specs.Send.{withdrawn}
+use Rattle.station.specs.Admission.{withdrawn}
 use Rattle.station.proofs.station.Station.withdrawn.Statement.{statement}
 use Rattle.station.proofs.station.Station.withdrawn.Tie as tie
 

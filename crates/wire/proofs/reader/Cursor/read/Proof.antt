@@ -16,20 +16,20 @@ ended-requires c κs = search needs
 enum-told-2 : tie.Need-enum-told-2
 enum-told-2 c = search needs
 
-read-escape-requires : tie.Need-read-escape-requires
-read-escape-requires c κs = search needs
+read-place-requires : tie.Need-read-place-requires
+read-place-requires c κs = search needs
 
 enum-told-3 : tie.Need-enum-told-3
 enum-told-3 c = search needs
 
-read-other-requires : tie.Need-read-other-requires
-read-other-requires c κs = search needs
+read-place-requires-2 : tie.Need-read-place-requires-2
+read-place-requires-2 c κs = search needs
 
 enum-told-4 : tie.Need-enum-told-4
 enum-told-4 c = search needs
 
-read-other-requires-2 : tie.Need-read-other-requires-2
-read-other-requires-2 c κs = search needs
+read-place-requires-3 : tie.Need-read-place-requires-3
+read-place-requires-3 c κs = search needs
 
 returns : tie.Need-returns
 unfolding readOne
@@ -44,7 +44,7 @@ returns-2 : tie.Need-returns-2
 unfolding readOne
 returns-2 c =
     simp (
-      c .read-escape .ensures,
+      c .read-place .ensures,
       c .before .enum-told2 .given .1,
       ← c .before .before .before .kind-of .ensures,
     )
@@ -53,7 +53,7 @@ returns-3 : tie.Need-returns-3
 unfolding readOne
 returns-3 c =
     simp (
-      c .read-other .ensures,
+      c .read-place2 .ensures,
       c .before .enum-told3 .given .1,
       ← c .before .before .before .kind-of .ensures,
     )
@@ -62,7 +62,7 @@ returns-4 : tie.Need-returns-4
 unfolding readOne
 returns-4 c =
     simp (
-      c .read-other2 .ensures,
+      c .read-place3 .ensures,
       c .before .enum-told4 .given .1,
       ← c .before .before .before .kind-of .ensures,
     )
@@ -75,11 +75,11 @@ read-spec =
     enum-told
     ended-requires
     enum-told-2
-    read-escape-requires
+    read-place-requires
     enum-told-3
-    read-other-requires
+    read-place-requires-2
     enum-told-4
-    read-other-requires-2
+    read-place-requires-3
     returns
     returns-2
     returns-3

@@ -1,4 +1,4 @@
--- `address::kind_of` meets its contract. The code tells AA and A9 apart from the rest as a range, the definition by two tests.
+-- `address::role_of` meets its contract. The code tells AA and A9 apart from the rest as a range, the definition by two tests.
 -- Assumes nothing.
 use borrow.Author.Needs.{needs}
 use borrow.Author.Tests.{eq-eqb, ne-eqb}
@@ -9,9 +9,9 @@ use Prim.Native.Nat.{ℕ, suc, _≤_, _<_}
 use native.Mathlib.Nat.{eq-or-lt-of-le}
 use native.Mathlib.Omega.{arith}
 use lib.Dec.{eqb}
-use Rattle.address.specs.Kind.{kindOf}
-use Rattle.address.proofs.kind_of.Statement.{statement}
-use Rattle.address.proofs.kind_of.Tie as tie
+use Rattle.address.specs.Role.{roleOf}
+use Rattle.address.proofs.role_of.Statement.{statement}
+use Rattle.address.proofs.role_of.Tie as tie
 
 -- the two tests, at two numbers in a row: one passes within the range, and none outside
 within : (x a : ℕ) → x ≤ a → a < suc (suc x) → (eqb a (suc x) || eqb a x) ≡ true
@@ -30,16 +30,16 @@ is-master-requires : tie.Need-is-master-requires
 is-master-requires c κs = search needs
 
 returns : tie.Need-returns
-unfolding kindOf
+unfolding roleOf
 returns c = simp (← c .before .is-master .ensures, c .if1 .taken)
 
 returns-2 : tie.Need-returns-2
-unfolding kindOf
+unfolding roleOf
 returns-2 c =
     simp (← c .before .before .is-master .ensures, c .before .if1 .left, eq-eqb _ _ (c .match .keys1))
 
 returns-3 : tie.Need-returns-3
-unfolding kindOf
+unfolding roleOf
 returns-3 c =
     let b = c .before .before in
     simp (
@@ -50,7 +50,7 @@ returns-3 c =
     )
 
 returns-4 : tie.Need-returns-4
-unfolding kindOf
+unfolding roleOf
 returns-4 c =
     let b = c .before in
     simp (
@@ -61,7 +61,7 @@ returns-4 c =
     )
 
 returns-5 : tie.Need-returns-5
-unfolding kindOf
+unfolding roleOf
 returns-5 c =
     let b = c .before .before in
     simp (
@@ -71,6 +71,6 @@ returns-5 c =
       outside _ _ (inr (c .if3 .left)),
     )
 
-pub kind-of-spec : {M : Type 1} → statement M
-kind-of-spec =
+pub role-of-spec : {M : Type 1} → statement M
+role-of-spec =
     tie.close (tie.spec is-master-requires returns returns-2 returns-3 returns-4 returns-5)

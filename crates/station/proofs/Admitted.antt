@@ -2,9 +2,9 @@
 use mathlib.Core.Path.{_≡_, ap, ap₂, _∙_}
 use mathlib.Core.Bool.{Bool, true, false, cond}
 use Rattle.station.specs.declared.phase.Since.{Since}
-use Rattle.station.specs.declared.phase.Since.the-variants.{Nothing, OneSymbol, Other}
+use Rattle.station.specs.declared.phase.Since.the-variants.{Nothing, OneSymbol, ManyOrNoSyn}
 use Rattle.station.specs.declared.station.Station.{Station}
-use Rattle.station.specs.Hear.{admitsAfter, admits}
+use Rattle.station.specs.Admission.{admitsAfter, admits}
 
 -- a master is admitted by what was heard and by its mark
 as-heard : (s : Station) → s .master ≡ true → admits s ≡ admitsAfter (s .since) (s .marked)
@@ -23,7 +23,7 @@ marked-let-in s m e n = as-heard s m ∙ ap₂ (λ (a : Since) (b : Bool). admit
 pub all-let-in : (s : Station) → s .master ≡ true → s .since ≡ Nothing → admits s ≡ true
 all-let-in s m e = as-heard s m ∙ ap (λ (a : Since). admitsAfter a (s .marked)) e
 
-pub all-let-in-else : (s : Station) → s .master ≡ true → s .since ≡ Other → admits s ≡ true
+pub all-let-in-else : (s : Station) → s .master ≡ true → s .since ≡ ManyOrNoSyn → admits s ≡ true
 all-let-in-else s m e = as-heard s m ∙ ap (λ (a : Since). admitsAfter a (s .marked)) e
 
 -- a slave never is
