@@ -29,8 +29,8 @@ use Rattle.promises.specs.Accepted.{telegramOf}
 use Rattle.promises.specs.Calls.{queue, reply, afterCall, Reachable}
 use Rattle.promises.specs.Fit.{stationAt}
 use Rattle.promises.specs.Slots.{verdictOn}
-use Rattle.promises.proofs.FitKept.{reachable-fit}
-use Rattle.promises.proofs.Stations.{reachable-sane}
+use Rattle.promises.proofs.Shared.FitKept.{reachable-fit}
+use Rattle.promises.proofs.Shared.Stations.{reachable-sane}
 
 -- an outbox that takes a telegram has it behind the others
 taken-behind : (o : Outbox) (t : Telegram) → Kept o → accepted o t .taken ≡ true → waiting (accepted o t .outbox) ≡ waiting o ++ (t ∷ [])

@@ -15,7 +15,7 @@ use Rattle.bus.specs.Slot.{wired, saidBy, spokenWith, spoken, turned, mapFirst,
 use Rattle.bus.proofs.Loops.{attached-fit, mapFirst-turn}
 use Rattle.promises.specs.Calls.{Reachable}
 use Rattle.promises.specs.Orders.{seatsFrom, seatsOf, wordIn, spokenIn, turnsIn}
-use Rattle.promises.proofs.FitKept.{reachable-fit}
+use Rattle.promises.proofs.Shared.FitKept.{reachable-fit}
 use Rattle.promises.proofs.Wired.{wired-swap}
 
 -- ---- the word

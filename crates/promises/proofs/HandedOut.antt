@@ -34,10 +34,10 @@ use Rattle.bus.specs.Slot.{spoken, turned, slotHeard, slotRun}
 use Rattle.promises.specs.Calls.{Call, attach, queue, reply, slot, heard, afterCall, afterCalls}
 use Rattle.promises.specs.Fit.{stationAt}
 use Rattle.promises.specs.Heard.{sinceAfter, sinceCall, sinceCalls, heardSince, WasHeard}
-use Rattle.promises.proofs.Arrays.{AllFull, none-full, oldest-full, accepted-full, after-full}
-use Rattle.promises.proofs.InStep.{InStep, silent, reading, sending, handsOut, nothing-out, in-step-array, Next, quiet-next, symbol-next}
-use Rattle.promises.proofs.PartAfter.{part-after}
-use Rattle.promises.proofs.Seats.{Whole, Did, Seat, as-it-was, newly-taken, holds-more, answers-more, seat-after, did-attach, did-queue, did-reply, attached-slot, slot-seat, whole-answer, whole-slot, whole-on}
+use Rattle.promises.proofs.Shared.Arrays.{AllFull, none-full, oldest-full, accepted-full, after-full}
+use Rattle.promises.proofs.Shared.InStep.{InStep, silent, reading, sending, handsOut, nothing-out, in-step-array, Next, quiet-next, symbol-next}
+use Rattle.promises.proofs.Shared.PartAfter.{part-after}
+use Rattle.promises.proofs.Shared.Seats.{Whole, Did, Seat, as-it-was, newly-taken, holds-more, answers-more, seat-after, did-attach, did-queue, did-reply, attached-slot, slot-seat, whole-answer, whole-slot, whole-on}
 
 -- ---- a station
 

@@ -25,9 +25,9 @@ use Rattle.bus.specs.Attach.{newcomer}
 use Rattle.bus.specs.Slot.{slotHeard}
 use Rattle.promises.specs.Calls.{Call, Reachable}
 use Rattle.promises.specs.Fit.{stationAt}
-use Rattle.promises.proofs.AtPhase.{bidder-admitted}
-use Rattle.promises.proofs.FitKept.{reachable-fit, one-address}
-use Rattle.promises.proofs.Seats.{Whole, Did, Seat, as-it-was, newly-taken, holds-more, answers-more, seat-after, attached-slot, slot-seat, whole-answer, whole-slot, of-reachable, by-call}
+use Rattle.promises.proofs.Shared.AtPhase.{bidder-admitted}
+use Rattle.promises.proofs.Shared.FitKept.{reachable-fit, one-address}
+use Rattle.promises.proofs.Shared.Seats.{Whole, Did, Seat, as-it-was, newly-taken, holds-more, answers-more, seat-after, attached-slot, slot-seat, whole-answer, whole-slot, of-reachable, by-call}
 
 -- what was heard first since the last AA, quiet left out
 pub data FirstHeard : Type 0 where

@@ -8,7 +8,7 @@ use Rattle.bus.specs.declared.refusal.Refusal.{Refusal}
 use Rattle.bus.specs.declared.refusal.Verdict.the-variants.{Done, Refused}
 use Rattle.promises.specs.Calls.{Call, attach, queue, reply, slot, heard, afterCall}
 use Rattle.promises.specs.Slots.{verdictOn}
-use Rattle.promises.proofs.Seats.{Did, refused, attached, queued, replied, did-attach, did-queue, did-reply}
+use Rattle.promises.proofs.Shared.Seats.{Did, refused, attached, queued, replied, did-attach, did-queue, did-reply}
 
 done-not : {A : Type 0} {r : Refusal} → Done ≡ Refused r → A
 done-not e = let z : _≡_ {A = ℕ} 0 1 = cc in absurd (omega arith)

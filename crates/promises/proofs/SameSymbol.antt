@@ -10,8 +10,8 @@ use Rattle.bus.specs.Slot.{spoken, slotRun}
 use Rattle.promises.specs.Calls.{Call, afterCall, Reachable}
 use Rattle.promises.specs.Fit.{stationAt}
 use Rattle.promises.specs.Slots.{AllHear, undisturbed, disturbed}
-use Rattle.promises.proofs.FitKept.{reachable-fit}
-use Rattle.promises.proofs.Seats.{slot-seat, attached-slot}
+use Rattle.promises.proofs.Shared.FitKept.{reachable-fit}
+use Rattle.promises.proofs.Shared.Seats.{slot-seat, attached-slot}
 
 -- whatever was called before: in a slot that all hear as h, the turn of each attached station is what it makes, made ready, of h
 pub same-symbol : {b : Bus} {c : Call} {h : Sound}

@@ -12,7 +12,7 @@ use Rattle.bus.specs.Bus.{poweredOn, withTurn}
 use Rattle.bus.specs.Slot.{spoken, slotHeard, slotRun}
 use Rattle.promises.specs.Calls.{Call, attach, queue, reply, slot, heard, afterCall, afterCalls}
 use Rattle.promises.specs.Slots.{slotsOf, slotsIn}
-use Rattle.promises.proofs.Seats.{Did, refused, attached, queued, replied, did-attach, did-queue, did-reply}
+use Rattle.promises.proofs.Shared.Seats.{Did, refused, attached, queued, replied, did-attach, did-queue, did-reply}
 
 -- so many slots have run: the number says how many, modulo 2^32, and whether any has is a fact of its own
 record Ran (n : ℕ) (b : Bus) : Type 0 where

@@ -13,8 +13,8 @@ use Rattle.promises.specs.Calls.{Call, afterCall, Reachable}
 use Rattle.promises.specs.Fit.{stationAt}
 use Rattle.promises.specs.Slots.{AllHear}
 use Rattle.promises.specs.Transfers.{HandedOut}
-use Rattle.promises.proofs.TakenAnswer.{answer-to-master}
-use Rattle.promises.proofs.TakenGiven.{owner-to-one, owner-to-all}
+use Rattle.promises.proofs.Taken.TakenAnswer.{answer-to-master}
+use Rattle.promises.proofs.Taken.TakenGiven.{owner-to-one, owner-to-all}
 
 pub taken-is-handed-out : {b : Bus} {c : Call} {h : Sound}
     -- any calls from power-on

@@ -23,10 +23,10 @@ use Rattle.promises.specs.Calls.{Call, slot, afterCall, afterCalls, Reac
 use Rattle.promises.specs.Contest.{SynHeardIn, sent, disturbed, Between, Undisturbed, Each, Contends, LeastRank, TheLeast, OwnsInOneOf}
 use Rattle.promises.specs.Fit.{stationAt, Fit}
 use Rattle.promises.specs.Slots.{slotsIn}
-use Rattle.promises.proofs.Between.{KeepsAll, between-keeps}
-use Rattle.promises.proofs.Round.{bid-means, means-bid}
-use Rattle.promises.proofs.FitKept.{still-fit, slot-fit, reachable-fit, one-address}
-use Rattle.promises.proofs.Twelfth.{Begun, begun-heard, begun-between, attached-kept, hears-word, contender-owns-by-the-twelfth}
+use Rattle.promises.proofs.Contest.Between.{KeepsAll, between-keeps}
+use Rattle.promises.proofs.Contest.Round.{bid-means, means-bid}
+use Rattle.promises.proofs.Shared.FitKept.{still-fit, slot-fit, reachable-fit, one-address}
+use Rattle.promises.proofs.Contest.Twelfth.{Begun, begun-heard, begun-between, attached-kept, hears-word, contender-owns-by-the-twelfth}
 
 -- ---- there is one
 

@@ -30,7 +30,7 @@ use Rattle.promises.specs.Accepted.{telegramOf}
 use Rattle.promises.specs.Calls.{queue, reply, Reachable}
 use Rattle.promises.specs.Fit.{Fit}
 use Rattle.promises.specs.Slots.{verdictOn}
-use Rattle.promises.proofs.FitKept.{reachable-fit}
+use Rattle.promises.proofs.Shared.FitKept.{reachable-fit}
 
 -- ---- what a call that is done lets through: no line of 01's table holds
 

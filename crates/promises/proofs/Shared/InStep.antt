@@ -31,7 +31,7 @@ use Rattle.station.specs.Addressed.{forAll}
 use Rattle.station.specs.Station.{syn, ack, nak}
 use Rattle.station.proofs.Moves.{Moves, silent-on, owing-on, reading-waits, awaiting-waits, acknowledges, leaves-released, leaves-disturbed, stops-disturbed, wins, reads-on, not-for-it, reads-in-vain, breaks-answer, gives-broadcast, reads-whole, reads-too-long, sends-on, takes-broadcast, sends-whole, awaits-answer, ends-taken, answer-taken, sends-again, ends-failed, answer-failed, gives-and-owes, gives, gives-answer, reads-again, gives-nothing, answer-lost}
 use Rattle.promises.specs.Heard.{isFirst, sinceAfter, WasHeard}
-use Rattle.promises.proofs.PartAfter.{ForOne, PartAfter, is-oldest, is-read, reading-kept, silent-kept, sending-kept, awaiting-kept, judging-kept, owing-kept, releasing-kept}
+use Rattle.promises.proofs.Shared.PartAfter.{ForOne, PartAfter, is-oldest, is-read, reading-kept, silent-kept, sending-kept, awaiting-kept, judging-kept, owing-kept, releasing-kept}
 
 -- a phase, the part beside it, and the symbols since its reading began
 pub data InStep (part : Telegram) (xs : List ℕ) : Phase → Type 0 where

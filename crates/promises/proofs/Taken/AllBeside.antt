@@ -22,12 +22,12 @@ use Rattle.bus.specs.Attach.{newcomer}
 use Rattle.bus.specs.Slot.{slotHeard}
 use Rattle.promises.specs.Calls.{Call, Reachable}
 use Rattle.promises.specs.Fit.{stationAt}
-use Rattle.promises.proofs.Beside.{Beside, BesideTurn, not-past, silent, hears-beside, ready-not-owing, ready-beside}
-use Rattle.promises.proofs.FitKept.{reachable-fit, ready-apart}
-use Rattle.promises.proofs.Outgoing.{by-reachable}
-use Rattle.promises.proofs.Seats.{Did, Seat, as-it-was, newly-taken, holds-more, answers-more, by-call, seat-after, attached-slot, slot-seat}
-use Rattle.promises.proofs.Stations.{reachable-sane}
-use Rattle.promises.proofs.Together.{reachable-together, ready-follows, ready-sane}
+use Rattle.promises.proofs.Taken.Beside.{Beside, BesideTurn, not-past, silent, hears-beside, ready-not-owing, ready-beside}
+use Rattle.promises.proofs.Shared.FitKept.{reachable-fit, ready-apart}
+use Rattle.promises.proofs.Shared.Outgoing.{by-reachable}
+use Rattle.promises.proofs.Shared.Seats.{Did, Seat, as-it-was, newly-taken, holds-more, answers-more, by-call, seat-after, attached-slot, slot-seat}
+use Rattle.promises.proofs.Shared.Stations.{reachable-sane}
+use Rattle.promises.proofs.Taken.Together.{reachable-together, ready-follows, ready-sane}
 
 abbrev pub AllBeside : Bus → Type 0
 AllBeside b =

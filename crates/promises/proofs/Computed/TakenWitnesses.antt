@@ -10,7 +10,7 @@ use Rattle.station.specs.declared.phase.Told.the-variants.{Taken, Given, Answer
 use Rattle.bus.specs.Bus.{poweredOn, turnAt, attachedTo}
 use Rattle.promises.specs.Calls.{Call, attach, queue, reply, slot, heard, afterCall, afterCalls, ByteCalls, by-calls}
 use Rattle.promises.specs.Fit.{stationAt}
-use Rattle.promises.proofs.Runs.{run}
+use Rattle.promises.proofs.Computed.Runs.{run}
 use native.Mathlib.Omega.{arith}
 use Rattle.promises.specs.Slots.{undisturbed}
 use Rattle.promises.specs.Transfers.{HandedOut}

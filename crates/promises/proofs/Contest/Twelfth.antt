@@ -27,10 +27,10 @@ use Rattle.promises.specs.Calls.{Call, slot, afterCall, afterCalls}
 use Rattle.promises.specs.Contest.{SynHeardIn, sent, disturbed, Between, queued, replied, Undisturbed, by-all, between, Each, Contends, LeastRank, BecomesOwner, OwnsInOneOf, this-slot, later}
 use Rattle.promises.specs.Fit.{stationAt, Addressed, Fit}
 use Rattle.promises.specs.Slots.{slotsIn}
-use Rattle.promises.proofs.Anded.{NotAfter, not-after}
-use Rattle.promises.proofs.Between.{Keeps, KeepsAll, between-keeps}
-use Rattle.promises.proofs.Round.{ready-opens, bid-means, means-bid, Won, wins, Near, Lost, Waits, Starts, syn-starts, lost-one, lost-waits, mute-ready, lost-says, quiet-lost, quiet-waits, Again, again-opens, Bidder, again-bids, starts-kept, lost-kept, waits-kept, again-kept, bidder-kept}
-use Rattle.promises.proofs.Word.{InEverySeat, MasterOrQuiet, AtMost, Opening, word-master, word-low, word-high, word-quiet, seat-after, array-after, attached-after, seats-after}
+use Rattle.promises.proofs.Contest.Anded.{NotAfter, not-after}
+use Rattle.promises.proofs.Contest.Between.{Keeps, KeepsAll, between-keeps}
+use Rattle.promises.proofs.Contest.Round.{ready-opens, bid-means, means-bid, Won, wins, Near, Lost, Waits, Starts, syn-starts, lost-one, lost-waits, mute-ready, lost-says, quiet-lost, quiet-waits, Again, again-opens, Bidder, again-bids, starts-kept, lost-kept, waits-kept, again-kept, bidder-kept}
+use Rattle.promises.proofs.Contest.Word.{InEverySeat, MasterOrQuiet, AtMost, Opening, word-master, word-low, word-high, word-quiet, seat-after, array-after, attached-after, seats-after}
 
 -- ---- the calls
 

@@ -22,7 +22,7 @@ use Rattle.station.specs.declared.phase.Attempt.the-variants.{First, Again}
 use Rattle.station.specs.declared.phase.Phase.{Phase}
 use Rattle.station.specs.declared.phase.Phase.the-variants.{Silent, Reading, Sending, Awaiting, Judging, Owing, Releasing}
 use Rattle.station.specs.declared.station.Station.{Station}
-use Rattle.promises.proofs.Outgoing.{ownAs, Outgoing, AllOut}
+use Rattle.promises.proofs.Shared.Outgoing.{ownAs, Outgoing, AllOut}
 
 -- no AA yet, or the symbols since the last one, the newest first
 pub data Since : Type 0 where

@@ -17,7 +17,7 @@ use Rattle.promises.specs.Fit.{stationAt}
 use Rattle.promises.specs.Heard.{heardSince}
 use Rattle.promises.specs.Orders.{seatsOf}
 use Rattle.promises.specs.Slots.{verdictOn}
-use Rattle.promises.proofs.Runs.{run}
+use Rattle.promises.proofs.Computed.Runs.{run}
 
 -- slots that all hear as these symbols
 abbrev symbols : List ℕ → List Call

@@ -35,7 +35,7 @@ use Rattle.laws.proofs.AtMost.{at-most-same}
 use Rattle.laws.proofs.FirstIs.{missing-each}
 use Rattle.promises.specs.Calls.{Call, ByteCall, Reachable}
 use Rattle.promises.specs.Fit.{stationAt, Addressed, Fit}
-use Rattle.promises.proofs.Seats.{either-false, every-seat, withNewcomer, Did, refused, attached, queued, replied, holdingMore, answeringMore, attached-turn, attached-slot, attached-before, attached-newcomer, turn-same, turn-other, newcomer-seat, other-seat, slot-seat, whole-slot, of-reachable, by-call}
+use Rattle.promises.proofs.Shared.Seats.{either-false, every-seat, withNewcomer, Did, refused, attached, queued, replied, holdingMore, answeringMore, attached-turn, attached-slot, attached-before, attached-newcomer, turn-same, turn-other, newcomer-seat, other-seat, slot-seat, whole-slot, of-reachable, by-call}
 
 -- ---- who a station is
 

@@ -27,8 +27,8 @@ use Rattle.bus.specs.Attach.{newcomer}
 use Rattle.bus.specs.Slot.{turned, slotHeard}
 use Rattle.promises.specs.Calls.{Call, Reachable}
 use Rattle.promises.specs.Fit.{stationAt}
-use Rattle.promises.proofs.Arrays.{AllFull, none-full, accepted-full, after-full, AllEntriesFull, no-entries-full, written-full}
-use Rattle.promises.proofs.Seats.{Whole, Did, Seat, as-it-was, newly-taken, holds-more, answers-more, holdingMore, answeringMore, seat-after, attached-slot, slot-seat, whole-answer, whole-slot, whole-on, of-reachable, by-call}
+use Rattle.promises.proofs.Shared.Arrays.{AllFull, none-full, accepted-full, after-full, AllEntriesFull, no-entries-full, written-full}
+use Rattle.promises.proofs.Shared.Seats.{Whole, Did, Seat, as-it-was, newly-taken, holds-more, answers-more, holdingMore, answeringMore, seat-after, attached-slot, slot-seat, whole-answer, whole-slot, whole-on, of-reachable, by-call}
 
 module _ (P : Turn → Type 0) (new : (a : ℕ) (m : Bool) → P (newcomer a m))
     (telegram : (t : Turn) (m : Telegram) → Sixteen (m .load) → P t → P (holdingMore t m))

@@ -47,12 +47,12 @@ use Rattle.station.proofs.Frame.{Begins, as-it-stood, answers as takes, ready-b
 use Rattle.station.proofs.Moves.{Moves, silent-on, owing-on, reading-waits, awaiting-waits, acknowledges, leaves-released, leaves-disturbed, stops-disturbed, wins, reads-on, not-for-it, reads-in-vain, breaks-answer, gives-broadcast, reads-whole, reads-too-long, sends-on, takes-broadcast, sends-whole, awaits-answer, ends-taken, answer-taken, sends-again, ends-failed, answer-failed, gives-and-owes, gives, gives-answer, reads-again, gives-nothing, answer-lost}
 use Rattle.station.proofs.Possible.{Possible, InAnswer, no-pb, Fit, reading-answer, answer-goes-on, bids-at-start}
 use Rattle.station.proofs.Turned.{moves-of}
-use Rattle.promises.proofs.Arrays.{AllEntriesFull, answer-full}
-use Rattle.promises.proofs.AtPhase.{symbol-at, quiet-at}
-use Rattle.promises.proofs.OthersTold.{stranger, all-given}
-use Rattle.promises.proofs.Outgoing.{ownAs, Outgoing}
-use Rattle.promises.proofs.SenderHeard.{form-two, due-is, sent-last, sent-more}
-use Rattle.promises.proofs.Upto.{Since, Upto, sendsMaster, Sends, other, sending, awaiting, JudgesIt, Follows}
+use Rattle.promises.proofs.Shared.Arrays.{AllEntriesFull, answer-full}
+use Rattle.promises.proofs.Shared.AtPhase.{symbol-at, quiet-at}
+use Rattle.promises.proofs.Taken.OthersTold.{stranger, all-given}
+use Rattle.promises.proofs.Shared.Outgoing.{ownAs, Outgoing}
+use Rattle.promises.proofs.Taken.SenderHeard.{form-two, due-is, sent-last, sent-more}
+use Rattle.promises.proofs.Taken.Upto.{Since, Upto, sendsMaster, Sends, other, sending, awaiting, JudgesIt, Follows}
 
 -- the owner's part was taken or came to nothing: it awaits, reads or judges the answer, or releases the wire
 abbrev pub pastPart : Phase → Bool

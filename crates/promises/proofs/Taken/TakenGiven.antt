@@ -41,16 +41,16 @@ use Rattle.promises.specs.Calls.{Call, afterCall, Reachable}
 use Rattle.promises.specs.Fit.{stationAt}
 use Rattle.promises.specs.Slots.{AllHear}
 use Rattle.promises.specs.Transfers.{IsGiven, HandsOutNothing, ToOne, ToAll}
-use Rattle.promises.proofs.AtPhase.{symbol-at}
-use Rattle.promises.proofs.FitKept.{ready-apart}
-use Rattle.promises.proofs.InStep.{handsOut}
-use Rattle.promises.proofs.OthersTold.{hands-out-nothing, stranger, all-given, one-given, other-silent}
-use Rattle.promises.proofs.Outgoing.{ownAs, own-as, Outgoing}
+use Rattle.promises.proofs.Shared.AtPhase.{symbol-at}
+use Rattle.promises.proofs.Shared.FitKept.{ready-apart}
+use Rattle.promises.proofs.Shared.InStep.{handsOut}
+use Rattle.promises.proofs.Taken.OthersTold.{hands-out-nothing, stranger, all-given, one-given, other-silent}
+use Rattle.promises.proofs.Shared.Outgoing.{ownAs, own-as, Outgoing}
 use Rattle.promises.proofs.SameSymbol.{same-symbol}
-use Rattle.promises.proofs.SenderHeard.{due-is, sent-more}
-use Rattle.promises.proofs.TakenBy.{isTaken, TakenBy, last-sent, acknowledged, taken-only-if}
-use Rattle.promises.proofs.Together.{reachable-together, ready-follows}
-use Rattle.promises.proofs.Upto.{Since, Upto, Sends, other, sending, awaiting, Follows, sendsMaster}
+use Rattle.promises.proofs.Taken.SenderHeard.{due-is, sent-more}
+use Rattle.promises.proofs.Taken.TakenBy.{isTaken, TakenBy, last-sent, acknowledged, taken-only-if}
+use Rattle.promises.proofs.Taken.Together.{reachable-together, readySeat, follows}
+use Rattle.promises.proofs.Taken.Upto.{Since, Upto, Sends, other, sending, awaiting, Follows, sendsMaster}
 
 noted-out : (s : Station) → noted s .out ≡ s .out
 unfolding noted
@@ -114,60 +114,54 @@ ready-part s = begun (ready-begins s)
     begun (answers _) = refl
 
 module _ {b : Bus} {c : Call} {h : Sound} (r : Reachable b) (hear : AllHear b c h) (i : ℕ) (l : i < attachedTo b) where
-  abbrev at-seat : ℕ → Station
-  at-seat j = ready (stationAt b j)
-
-  ready-own : (j zz : ℕ) → isOwn (stationAt b j) zz ≡ ownAs (at-seat j .address) (at-seat j .master) zz
+  ready-own : (j zz : ℕ) → isOwn (stationAt b j) zz ≡ ownAs (readySeat b j .address) (readySeat b j .master) zz
   unfolding isOwn
   ready-own j zz = let e = ready-lasting (stationAt b j) in rw (e .address, e .master) (own-as (stationAt b j) zz)
 
-  addresses-apart : (j : ℕ) → j < attachedTo b → j ≢ i → at-seat i .address ≡ at-seat j .address → ⊥
+  addresses-apart : (j : ℕ) → j < attachedTo b → j ≢ i → readySeat b i .address ≡ readySeat b j .address → ⊥
   addresses-apart j k d e = ready-apart r j i k l d (sym e)
 
-  follows : (j : ℕ) → j < attachedTo b → Follows (reachable-together r .so-far) (at-seat j)
-  follows j k = ready-follows (stationAt b j) (reachable-together r .each j k)
-
-  the-part : at-seat i .part ≡ stationAt b i .part
+  the-part : readySeat b i .part ≡ stationAt b i .part
   the-part = ready-part (stationAt b i)
 
-  zz-own : (j : ℕ) → ownAs (at-seat j .address) (at-seat j .master) (at-seat i .part .zz) ≡ isOwn (stationAt b j) (stationAt b i .part .zz)
-  zz-own j = sym (ready-own j (at-seat i .part .zz)) ∙ ap (λ (t : Telegram). isOwn (stationAt b j) (t .zz)) the-part
+  zz-own : (j : ℕ) → ownAs (readySeat b j .address) (readySeat b j .master) (readySeat b i .part .zz) ≡ isOwn (stationAt b j) (stationAt b i .part .zz)
+  zz-own j = sym (ready-own j (readySeat b i .part .zz)) ∙ ap (λ (t : Telegram). isOwn (stationAt b j) (t .zz)) the-part
 
   module _ (own : owner (stationAt b i .phase) ≡ true) (taken : turnAt (afterCall b c) i .told ≡ Taken) where
-    by-owner : OwnerTaken (reachable-together r .so-far) (at-seat i) h
+    by-owner : OwnerTaken (reachable-together r .so-far) (readySeat b i) h
     by-owner =
-        owner-taken (at-seat i) (follows i l) (ready-ownership (stationAt b i) ∙ own)
+        owner-taken (readySeat b i) (follows r i l) (ready-ownership (stationAt b i) ∙ own)
         (ap (λ (t : Turn). t .told) (sym (same-symbol r hear i l)) ∙ taken)
 
     to-all : forAll (stationAt b i .part .zz) ≡ true → (j : ℕ) → j < attachedTo b → j ≢ i → IsGiven (turnAt (afterCall b c) j) (stationAt b i .part)
-    to-all a j k d = rw (same-symbol r hear j k) (subst (IsGiven (hears (at-seat j) h)) the-part (by by-owner))
+    to-all a j k d = rw (same-symbol r hear j k) (subst (IsGiven (hears (readySeat b j) h)) the-part (by by-owner))
       where
-        by : {h : Sound} → OwnerTaken (reachable-together r .so-far) (at-seat i) h → IsGiven (hears (at-seat j) h) (at-seat i .part)
-        by (sent-out {n = n} xs b n′ u f z g) =
-            all-given (at-seat j) (follows j k) (at-seat i .part) (stranger g (addresses-apart j k d)) n xs u b n′ f z .0
-        by (was-acknowledged xs b n′ u f z e g) = absurd (true≢false (sym a ∙ ap (λ (t : Telegram). forAll (t .zz)) (sym the-part) ∙ z))
+        by : {h : Sound} → OwnerTaken (reachable-together r .so-far) (readySeat b i) h → IsGiven (hears (readySeat b j) h) (readySeat b i .part)
+        by (sent-out {n = n} xs s n′ u f z g) =
+            all-given (readySeat b j) (follows r j k) (readySeat b i .part) (stranger g (addresses-apart j k d)) n xs u s n′ f z .0
+        by (was-acknowledged xs s n′ u f z e g) = absurd (true≢false (sym a ∙ ap (λ (t : Telegram). forAll (t .zz)) (sym the-part) ∙ z))
 
     to-one : forAll (stationAt b i .part .zz) ≡ false → (j : ℕ) → j < attachedTo b → isOwn (stationAt b j) (stationAt b i .part .zz) ≡ true
         → IsGiven (turnAt (afterCall b c) j) (stationAt b i .part)
-    to-one a j k z = rw (same-symbol r hear j k) (subst (IsGiven (hears (at-seat j) h)) the-part (by by-owner))
+    to-one a j k z = rw (same-symbol r hear j k) (subst (IsGiven (hears (readySeat b j) h)) the-part (by by-owner))
       where
-        not-self : Outgoing (at-seat i .address) (at-seat i .master) (at-seat i .part) → j ≡ i → ⊥
+        not-self : Outgoing (readySeat b i .address) (readySeat b i .master) (readySeat b i .part) → j ≡ i → ⊥
         not-self g e =
             true≢false (sym (ap (λ (q : ℕ). isOwn (stationAt b q) (stationAt b i .part .zz)) (sym e) ∙ z) ∙ sym (zz-own i) ∙ g .target)
 
-        by : {h : Sound} → OwnerTaken (reachable-together r .so-far) (at-seat i) h → IsGiven (hears (at-seat j) h) (at-seat i .part)
-        by (sent-out xs b n′ u f y g) = absurd (true≢false (sym y ∙ ap (λ (t : Telegram). forAll (t .zz)) the-part ∙ a))
-        by (was-acknowledged {n = n} xs b n′ u f y e g) =
-            one-given (at-seat j) (follows j k) (at-seat i .part) (stranger g (addresses-apart j k (not-self g))) n xs u b n′ f y e (zz-own j ∙ z)
+        by : {h : Sound} → OwnerTaken (reachable-together r .so-far) (readySeat b i) h → IsGiven (hears (readySeat b j) h) (readySeat b i .part)
+        by (sent-out xs s n′ u f y g) = absurd (true≢false (sym y ∙ ap (λ (t : Telegram). forAll (t .zz)) the-part ∙ a))
+        by (was-acknowledged {n = n} xs s n′ u f y e g) =
+            one-given (readySeat b j) (follows r j k) (readySeat b i .part) (stranger g (addresses-apart j k (not-self g))) n xs u s n′ f y e (zz-own j ∙ z)
 
     to-nobody-else : forAll (stationAt b i .part .zz) ≡ false → (j : ℕ) → j < attachedTo b → isOwn (stationAt b j) (stationAt b i .part .zz) ≡ false
         → HandsOutNothing (turnAt (afterCall b c) j)
     to-nobody-else a j k z = by-seat (ℕ-discrete j i)
       where
-        by : {h : Sound} → j ≢ i → OwnerTaken (reachable-together r .so-far) (at-seat i) h → HandsOutNothing (hears (at-seat j) h)
-        by d (sent-out xs b n′ u f y g) = absurd (true≢false (sym y ∙ ap (λ (t : Telegram). forAll (t .zz)) the-part ∙ a))
-        by d (was-acknowledged {n = n} xs b n′ u f y e g) =
-            other-silent (at-seat j) (follows j k) (at-seat i .part) (stranger g (addresses-apart j k d)) n xs u b n′ f y (zz-own j ∙ z)
+        by : {h : Sound} → j ≢ i → OwnerTaken (reachable-together r .so-far) (readySeat b i) h → HandsOutNothing (hears (readySeat b j) h)
+        by d (sent-out xs s n′ u f y g) = absurd (true≢false (sym y ∙ ap (λ (t : Telegram). forAll (t .zz)) the-part ∙ a))
+        by d (was-acknowledged {n = n} xs s n′ u f y e g) =
+            other-silent (readySeat b j) (follows r j k) (readySeat b i .part) (stranger g (addresses-apart j k d)) n xs u s n′ f y (zz-own j ∙ z)
 
         by-seat : Dec (j ≡ i) → HandsOutNothing (turnAt (afterCall b c) j)
         by-seat (yes e) =

@@ -38,8 +38,8 @@ use Rattle.station.specs.declared.station.Turn.{Turn}
 use Rattle.station.proofs.Aa.{IsSyn, aa}
 use Rattle.station.proofs.AfterSyn.{AfterSyn, after-syn}
 use Rattle.promises.specs.Fit.{Addressed}
-use Rattle.promises.proofs.Anded.{NotAfter}
-use Rattle.promises.proofs.Between.{Keeps}
+use Rattle.promises.proofs.Contest.Anded.{NotAfter}
+use Rattle.promises.proofs.Contest.Between.{Keeps}
 
 is-aa : IsSyn (Symbol syn)
 unfolding kindOf

@@ -23,9 +23,9 @@ use Rattle.bus.specs.declared.bus.Bus.{Bus}
 use Rattle.laws.proofs.FirstIs.{Every, none, next}
 use Rattle.bus.proofs.Loops.{attached-fit, length-mapFirst}
 use Rattle.promises.specs.Fit.{stationAt}
-use Rattle.promises.proofs.Anded.{and-low, and-high, and-master}
-use Rattle.promises.proofs.Round.{Opens, opens-says, bid-means}
-use Rattle.promises.proofs.Seats.{every-seat}
+use Rattle.promises.proofs.Contest.Anded.{and-low, and-high, and-master}
+use Rattle.promises.proofs.Contest.Round.{Opens, opens-says, bid-means}
+use Rattle.promises.proofs.Shared.Seats.{every-seat}
 
 -- ---- seat by seat
 

@@ -23,12 +23,12 @@ use Rattle.station.specs.declared.phase.Sound.the-variants.{Symbol}
 use Rattle.station.specs.declared.station.Station.{Station}
 use Rattle.station.specs.declared.station.Turn.{Turn}
 use Rattle.promises.specs.Transfers.{IsGiven, HandsOutNothing}
-use Rattle.promises.proofs.AtPhase.{symbol-at}
-use Rattle.promises.proofs.InStep.{handsOut}
-use Rattle.promises.proofs.OthersRead.{no-win, at-end, hears-given}
-use Rattle.promises.proofs.Outgoing.{ownAs, Outgoing}
-use Rattle.promises.proofs.SenderHeard.{form-two}
-use Rattle.promises.proofs.Upto.{Since, Upto, Stranger, JudgesIt, Follows}
+use Rattle.promises.proofs.Shared.AtPhase.{symbol-at}
+use Rattle.promises.proofs.Shared.InStep.{handsOut}
+use Rattle.promises.proofs.Taken.OthersRead.{no-win, at-end, hears-given}
+use Rattle.promises.proofs.Shared.Outgoing.{ownAs, Outgoing}
+use Rattle.promises.proofs.Taken.SenderHeard.{form-two}
+use Rattle.promises.proofs.Taken.Upto.{Since, Upto, Stranger, JudgesIt, Follows}
 
 pub hands-out-nothing : (t : Turn) → handsOut (t .told) ≡ false → HandsOutNothing t
 hands-out-nothing t e =

@@ -37,9 +37,9 @@ use Rattle.station.proofs.Moves.{Moves, silent-on, owing-on, reading-waits, awa
 use Rattle.station.proofs.Possible.{Possible, bids-at-start}
 use Rattle.station.proofs.Turned.{moves-of}
 use Rattle.station.proofs.Waiting.{Kept}
-use Rattle.promises.proofs.AtPhase.{hears-symbol, symbol-at, bidder-admitted}
-use Rattle.promises.proofs.Outgoing.{Outgoing, AllOut, oldest-out}
-use Rattle.promises.proofs.Upto.{Since, since, sinceNext, Upto, start, more, again, sendsMaster, Sends, other, sending, awaiting}
+use Rattle.promises.proofs.Shared.AtPhase.{hears-symbol, symbol-at, bidder-admitted}
+use Rattle.promises.proofs.Shared.Outgoing.{Outgoing, AllOut, oldest-out}
+use Rattle.promises.proofs.Taken.Upto.{Since, since, sinceNext, Upto, start, more, again, sendsMaster, Sends, other, sending, awaiting}
 
 -- ---- who sends no master part sends none next, but for who wins the wire
 

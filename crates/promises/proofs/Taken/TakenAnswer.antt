@@ -42,19 +42,19 @@ use Rattle.promises.specs.Calls.{Call, afterCall, Reachable}
 use Rattle.promises.specs.Fit.{stationAt}
 use Rattle.promises.specs.Slots.{AllHear}
 use Rattle.promises.specs.Transfers.{IsAnswered, HandsOutNothing, ToMaster}
-use Rattle.promises.proofs.AllBeside.{reachable-beside}
-use Rattle.promises.proofs.AtPhase.{symbol-at}
-use Rattle.promises.proofs.Beside.{pastPart, Beside, not-past, silent, owes, answers, awaits, ready-beside}
-use Rattle.promises.proofs.FitKept.{ready-apart}
-use Rattle.promises.proofs.InStep.{handsOut}
+use Rattle.promises.proofs.Taken.AllBeside.{reachable-beside}
+use Rattle.promises.proofs.Shared.AtPhase.{symbol-at}
+use Rattle.promises.proofs.Taken.Beside.{pastPart, Beside, not-past, silent, owes, answers, awaits, ready-beside}
+use Rattle.promises.proofs.Shared.FitKept.{ready-apart}
+use Rattle.promises.proofs.Shared.InStep.{handsOut}
 use Rattle.promises.proofs.OneOwner.{one-owner}
-use Rattle.promises.proofs.OthersTold.{hands-out-nothing, stranger}
+use Rattle.promises.proofs.Taken.OthersTold.{hands-out-nothing, stranger}
 use Rattle.promises.proofs.SameSymbol.{same-symbol}
-use Rattle.promises.proofs.SenderHeard.{form-two}
-use Rattle.promises.proofs.Stations.{reachable-sane}
-use Rattle.promises.proofs.TakenBy.{TakenBy, last-sent, acknowledged, taken-only-if}
-use Rattle.promises.proofs.Together.{reachable-together, ready-follows}
-use Rattle.promises.proofs.Upto.{Since, Upto, sendsMaster, Sends, other, sending, awaiting, Stranger, wanted, Listens, Follows}
+use Rattle.promises.proofs.Taken.SenderHeard.{form-two}
+use Rattle.promises.proofs.Shared.Stations.{reachable-sane}
+use Rattle.promises.proofs.Taken.TakenBy.{TakenBy, last-sent, acknowledged, taken-only-if}
+use Rattle.promises.proofs.Taken.Together.{reachable-together, readySeat, follows}
+use Rattle.promises.proofs.Taken.Upto.{Since, Upto, sendsMaster, Sends, other, sending, awaiting, Stranger, wanted, Listens, Follows}
 
 -- ---- while the owner's telegram is under way, nobody answers
 
@@ -181,43 +181,37 @@ ready-out {n} s = begun (ready-begins s)
 
 module _ {b : Bus} {c : Call} {h : Sound} (r : Reachable b) (hear : AllHear b c h) (i m : ℕ) (l : i < attachedTo b) (k : m < attachedTo b)
     (own : owner (stationAt b m .phase) ≡ true) (d : i ≢ m) where
-  abbrev at-seat : ℕ → Station
-  at-seat j = ready (stationAt b j)
-
-  follows : (j : ℕ) → j < attachedTo b → Follows (reachable-together r .so-far) (at-seat j)
-  follows j k = ready-follows (stationAt b j) (reachable-together r .each j k)
-
-  beside : (j : ℕ) → j < attachedTo b → j ≢ m → Beside (at-seat m .part) (at-seat m .phase) (at-seat j .phase) (at-seat j .out)
+  beside : (j : ℕ) → j < attachedTo b → j ≢ m → Beside (readySeat b m .part) (readySeat b m .phase) (readySeat b j .phase) (readySeat b j .out)
   beside j l d =
       ready-beside (stationAt b m) (stationAt b j) (reachable-together r .each m k .array) (reachable-sane r j l .entries)
       (reachable-beside r m j k l (λ e. d (sym e)))
 
-  not-owner : {p : Phase} → at-seat i .phase ≡ p → owner p ≡ true → ⊥
+  not-owner : {p : Phase} → readySeat b i .phase ≡ p → owner p ≡ true → ⊥
   not-owner e f = d (one-owner r i m l k (sym (ready-ownership (stationAt b i)) ∙ ap owner e ∙ f) own)
 
   -- only an answer can it be
-  answer-taken : {h : Sound} → TakenBy (at-seat i) h → (n : Attempt) × (at-seat i .phase ≡ Awaiting AnswerPart n) × (h ≡ Symbol ack)
+  answer-taken : {h : Sound} → TakenBy (readySeat b i) h → (n : Attempt) × (readySeat b i .phase ≡ Awaiting AnswerPart n) × (h ≡ Symbol ack)
   answer-taken (last-sent _ e _) = absurd (not-owner e refl)
   answer-taken (acknowledged {p = p} {n = n} _ e f) = by-part p e f
     where
-      by-part : {b : ℕ} (p : Part) → at-seat i .phase ≡ Awaiting p n → b ≡ ack
-          → (n : Attempt) × (at-seat i .phase ≡ Awaiting AnswerPart n) × (Symbol b ≡ Symbol ack)
+      by-part : {x : ℕ} (p : Part) → readySeat b i .phase ≡ Awaiting p n → x ≡ ack
+          → (n : Attempt) × (readySeat b i .phase ≡ Awaiting AnswerPart n) × (Symbol x ≡ Symbol ack)
       by-part MasterPart e f = absurd (not-owner e refl)
       by-part AnswerPart e f = (n, e, ap Symbol f)
 
-  turned-by-ack : h ≡ Symbol ack → (j : ℕ) → j < attachedTo b → turnAt (afterCall b c) j ≡ hears (at-seat j) (Symbol ack)
-  turned-by-ack e j k = same-symbol r hear j k ∙ ap (λ (x : Sound). hears (at-seat j) x) e
+  turned-by-ack : h ≡ Symbol ack → (j : ℕ) → j < attachedTo b → turnAt (afterCall b c) j ≡ hears (readySeat b j) (Symbol ack)
+  turned-by-ack e j k = same-symbol r hear j k ∙ ap (λ (x : Sound). hears (readySeat b j) x) e
 
   pub answer-to-master : turnAt (afterCall b c) i .told ≡ Taken → ToMaster b (afterCall b c) i m
   answer-to-master t =
-      let q = answer-taken (taken-only-if (at-seat i) (ap (λ (t : Turn). t .told) (sym (same-symbol r hear i l)) ∙ t)) in
+      let q = answer-taken (taken-only-if (readySeat b i) (ap (λ (t : Turn). t .told) (sym (same-symbol r hear i l)) ∙ t)) in
       let w =
-      awaited (at-seat m) (at-seat i) (follows m k) (follows i l) (λ e. ready-apart r i m l k d (sym e))
+      awaited (readySeat b m) (readySeat b i) (follows r m k) (follows r i l) (λ e. ready-apart r i m l k d (sym e))
       (ready-ownership (stationAt b m) ∙ own) (q .1) (beside i l d) in
       record {
         answer = w .answer;
         was-sent = held-front (stationAt b i .out) (answerForm (w .answer)) (sym (ready-out (stationAt b i) (q .1)) ∙ w .holds);
-        master = rw (turned-by-ack (q .2) m k) (hands-out (at-seat m) (w .judges-it) (w .answer) (w .same));
+        master = rw (turned-by-ack (q .2) m k) (hands-out (readySeat b m) (w .judges-it) (w .answer) (w .same));
         no-one-else = λ j k d.
-            rw (turned-by-ack (q .2) j k) (others-nothing (at-seat m) (w .judges-it) (at-seat j) (beside j k d));
+            rw (turned-by-ack (q .2) j k) (others-nothing (readySeat b m) (w .judges-it) (readySeat b j) (beside j k d));
       }

@@ -31,15 +31,15 @@ use Rattle.bus.specs.Attach.{newcomer}
 use Rattle.bus.specs.Slot.{spoken, slotHeard, slotRun}
 use Rattle.promises.specs.Calls.{Call, attach, queue, reply, slot, heard, afterCall, Reachable}
 use Rattle.promises.specs.Fit.{stationAt}
-use Rattle.promises.proofs.Arrays.{none-full, oldest-full}
-use Rattle.promises.proofs.FitKept.{reachable-fit}
-use Rattle.promises.proofs.OthersRead.{none-before, symbol-listens, quiet-listens, start-listens}
-use Rattle.promises.proofs.Outgoing.{by-reachable, AllOut, none-out, accepted-out, after-out, QueueDid, turned-away, took, queue-did}
-use Rattle.promises.proofs.PartAfter.{PartAfter, is-oldest, is-read, reading-kept, silent-kept, sending-kept, awaiting-kept, judging-kept, owing-kept, releasing-kept, part-after}
-use Rattle.promises.proofs.Seats.{Did, refused, attached, replied, withNewcomer, holdingMore, answeringMore, did-attach, did-reply, attached-turn, attached-slot, attached-before, attached-newcomer, turn-same, turn-other, newcomer-seat, other-seat, slot-seat}
-use Rattle.promises.proofs.SenderHeard.{quiet-sends, symbol-sends}
-use Rattle.promises.proofs.Stations.{Sane, reachable-sane}
-use Rattle.promises.proofs.Upto.{Since, before, since, sinceNext, other, Follows}
+use Rattle.promises.proofs.Shared.Arrays.{none-full, oldest-full}
+use Rattle.promises.proofs.Shared.FitKept.{reachable-fit}
+use Rattle.promises.proofs.Taken.OthersRead.{none-before, symbol-listens, quiet-listens, start-listens}
+use Rattle.promises.proofs.Shared.Outgoing.{by-reachable, AllOut, none-out, accepted-out, after-out, QueueDid, turned-away, took, queue-did}
+use Rattle.promises.proofs.Shared.PartAfter.{PartAfter, is-oldest, is-read, reading-kept, silent-kept, sending-kept, awaiting-kept, judging-kept, owing-kept, releasing-kept, part-after}
+use Rattle.promises.proofs.Shared.Seats.{Did, refused, attached, replied, withNewcomer, holdingMore, answeringMore, did-attach, did-reply, attached-turn, attached-slot, attached-before, attached-newcomer, turn-same, turn-other, newcomer-seat, other-seat, slot-seat}
+use Rattle.promises.proofs.Taken.SenderHeard.{quiet-sends, symbol-sends}
+use Rattle.promises.proofs.Shared.Stations.{Sane, reachable-sane}
+use Rattle.promises.proofs.Taken.Upto.{Since, before, since, sinceNext, other, Follows}
 
 -- ---- a station
 
@@ -240,3 +240,12 @@ on-together r = record { so-far = before; idle = λ _. refl; each = λ i l. absu
 -- so it is after any calls from power-on
 pub reachable-together : {b : Bus} → Reachable b → Together b
 reachable-together r = by-reachable Together on-together (λ b c r k w. call-together b r w c) r
+
+-- ---- as a slot begins
+
+-- the station in a seat, made ready for the slot
+abbrev pub readySeat : Bus → ℕ → Station
+readySeat b j = ready (stationAt b j)
+
+pub follows : {b : Bus} (r : Reachable b) (j : ℕ) → j < attachedTo b → Follows (reachable-together r .so-far) (readySeat b j)
+follows {b} r j k = ready-follows (stationAt b j) (reachable-together r .each j k)

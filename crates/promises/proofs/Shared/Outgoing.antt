@@ -41,8 +41,8 @@ use Rattle.bus.proofs.Loops.{attached-fit}
 use Rattle.laws.proofs.FirstIs.{Every, none, next}
 use Rattle.promises.specs.Calls.{Call, afterCall, afterCalls, ByteCall, ByteCalls, Reachable, by-calls}
 use Rattle.promises.specs.Fit.{stationAt, Fit}
-use Rattle.promises.proofs.Arrays.{every-append}
-use Rattle.promises.proofs.Seats.{either-false, holdingMore}
+use Rattle.promises.proofs.Shared.Arrays.{every-append}
+use Rattle.promises.proofs.Shared.Seats.{either-false, holdingMore}
 
 -- ---- induction over calls, with the bus before each call reachable
 

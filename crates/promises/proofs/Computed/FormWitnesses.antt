@@ -16,7 +16,7 @@ use Rattle.bus.specs.declared.refusal.Verdict.the-variants.{Done}
 use Rattle.bus.specs.Bus.{poweredOn}
 use Rattle.promises.specs.Calls.{Call, attach, queue, reply, afterCalls, Reachable, by-calls}
 use Rattle.promises.specs.Slots.{verdictOn}
-use Rattle.promises.proofs.Runs.{run}
+use Rattle.promises.proofs.Computed.Runs.{run}
 
 -- master 10 and slave 08
 abbrev two : List Call

@@ -21,7 +21,7 @@ use Rattle.bus.specs.declared.bus.Bus.{Bus}
 use Rattle.promises.specs.Calls.{Call, attach, queue, reply, slot, heard, afterCall, afterCalls, Reachable, by-calls}
 use Rattle.promises.specs.Contest.{sent, queued, by-all, between, Contends, LeastRank, OwnsInOneOf}
 use Rattle.promises.specs.Fit.{stationAt}
-use Rattle.promises.proofs.Runs.{run}
+use Rattle.promises.proofs.Computed.Runs.{run}
 use Rattle.promises.proofs.TheLeast.{least-rank-owns-by-the-twelfth}
 
 -- masters 10, 01 and 00; 10 has a telegram; nine quiet slots

@@ -37,9 +37,9 @@ use Rattle.station.specs.declared.phase.Sound.the-variants.{Quiet, Symbol}
 use Rattle.station.specs.declared.phase.Told.the-variants.{Silence, Given}
 use Rattle.station.specs.declared.station.Station.{Station}
 use Rattle.station.specs.declared.station.Turn.{Turn}
-use Rattle.promises.proofs.AtPhase.{symbol-at, quiet-at, bidder-admitted}
-use Rattle.promises.proofs.Outgoing.{ownAs}
-use Rattle.promises.proofs.Upto.{Since, before, since, sinceNext, Upto, start, more, again, Stranger, wanted, ReadsIt, JudgesIt, Keen, Listens}
+use Rattle.promises.proofs.Shared.AtPhase.{symbol-at, quiet-at, bidder-admitted}
+use Rattle.promises.proofs.Shared.Outgoing.{ownAs}
+use Rattle.promises.proofs.Taken.Upto.{Since, before, since, sinceNext, Upto, start, more, again, Stranger, wanted, ReadsIt, JudgesIt, Keen, Listens}
 
 -- ---- a reader's turn
 
