@@ -1,6 +1,7 @@
--- The stations that a slot passes by: the slot would have left them as they are, or they say nothing. Assumes nothing.
+-- The stations that a slot passes by: the slot would have left them as they are, or they say nothing. Who owes no answer is
+-- ready as it is. Assumes nothing.
 use mathlib.Core.Path.{_≡_, refl, sym, ap, _∙_}
-use mathlib.Core.Bool.{Bool, true, false, cond, false≢true}
+use mathlib.Core.Bool.{Bool, true, false, cond, true≢false, false≢true}
 use Prim.Native.Nat.{ℕ}
 use lib.Dec.{eqb, leb}
 use Rattle.wire.specs.Symbol.{kindOf}
@@ -18,22 +19,36 @@ use Rattle.station.specs.declared.phase.Told.the-variants.{Silence}
 use Rattle.station.specs.declared.station.Station.{Station}
 use Rattle.station.specs.declared.station.Turn.{Turn}
 use Rattle.bus.specs.Slot.{saidBy, turned}
-use Rattle.bus.specs.Still.{skipsQuiet, countedOut, skipsSymbol, skips, still, mute}
+use Rattle.bus.specs.Still.{skipsQuiet, countedOut, skipsSymbol, skips, still, mute, owes}
 use Rattle.bus.specs.Told.{isTold}
 use Rattle.bus.proofs.Tens.{not-first, silence}
 
--- ---- a station that says nothing
+-- ---- a station that is ready as it is
 
--- it owes no answer, so it is ready as it is
-ready-so : (p : Phase) (s : Station) → s .phase ≡ p → skipsQuiet p ≡ true → ready s ≡ s
+-- who owes no answer is ready as it is
+ready-in : (p : Phase) (s : Station) → s .phase ≡ p → owes p ≡ false → ready s ≡ s
 unfolding ready
-ready-so Silent s e h = rw e
-ready-so (Reading c p a) s e h = rw e
-ready-so (Sending at p a) s e h = absurd (false≢true h)
-ready-so (Awaiting p a) s e h = rw e
-ready-so (Judging p a m k) s e h = rw e
-ready-so Owing s e h = absurd (false≢true h)
-ready-so Releasing s e h = absurd (false≢true h)
+ready-in Silent s e h = rw e
+ready-in (Reading c p a) s e h = rw e
+ready-in (Sending at p a) s e h = rw e
+ready-in (Awaiting p a) s e h = rw e
+ready-in (Judging p a m k) s e h = rw e
+ready-in Owing s e h = absurd (true≢false h)
+ready-in Releasing s e h = rw e
+
+pub ready-so : (s : Station) → owes (s .phase) ≡ false → ready s ≡ s
+ready-so s h = ready-in (s .phase) s refl h
+
+skipper-owes : (p : Phase) → skipsQuiet p ≡ true → owes p ≡ false
+skipper-owes Silent h = refl
+skipper-owes (Reading c p a) h = refl
+skipper-owes (Sending at p a) h = refl
+skipper-owes (Awaiting p a) h = refl
+skipper-owes (Judging p a m k) h = refl
+skipper-owes Owing h = absurd (false≢true h)
+skipper-owes Releasing h = refl
+
+-- ---- a station that says nothing
 
 says-so : (p : Phase) (s : Station) → s .phase ≡ p → s .admitted ≡ false → skipsQuiet p ≡ true → says s ≡ Quiet
 unfolding says sayBid bids acknowledgement
@@ -49,7 +64,7 @@ pub mute-says : (t : Turn) → mute t ≡ true → saidBy t ≡ Quiet
 unfolding mute
 mute-says t e =
     let h = not-first (t .station .admitted) _ e in
-    rw (ready-so (t .station .phase) (t .station) refl (h .1)) (says-so (t .station .phase) (t .station) refl (h .0) (h .1))
+    rw (ready-so (t .station) (skipper-owes (t .station .phase) (h .1))) (says-so (t .station .phase) (t .station) refl (h .0) (h .1))
 
 -- ---- a station that the slot leaves as it is
 
@@ -128,11 +143,11 @@ heard-so : (heard : Sound) (t : Turn) → t .told ≡ Silence → t .station .ad
     → skips heard (t .station .phase) (t .station .since) ≡ true → turned heard t ≡ t
 unfolding hears
 heard-so Quiet t w a h =
-    rw (ready-so (t .station .phase) (t .station) refl h) (quiet-so (t .station .phase) t refl w a h)
+    rw (ready-so (t .station) (skipper-owes (t .station .phase) h)) (quiet-so (t .station .phase) t refl w a h)
 heard-so (Symbol x) t w a h =
     let g = not-first (eqb x syn) _ h in
     let f = skips-silent (t .station .phase) (t .station .since) (g .1) in
-    rw (ready-so Silent (t .station) (f .0) refl, no-syn (t .station) x (g .0)) (symbol-so t x (f .0) (f .1) w a)
+    rw (ready-in Silent (t .station) (f .0) refl, no-syn (t .station) x (g .0)) (symbol-so t x (f .0) (f .1) w a)
 
 pub still-untold : (heard : Sound) (t : Turn) → still heard t ≡ true → isTold (t .told) ≡ false
 unfolding still

@@ -1,5 +1,6 @@
 -- A way to be fast, no rule; proved equal to it (proofs/PassedBy.antt). A reader of the rules can pass it by.
--- A station that the slot leaves as it is, and one that says nothing, are passed by. Assumes nothing.
+-- A station that the slot leaves as it is, and one that says nothing, are passed by; who owes no answer is ready as it is.
+-- Assumes nothing.
 use mathlib.Core.Bool.{Bool, true, false, cond}
 use Prim.Native.Nat.{ℕ}
 use lib.Dec.{eqb}
@@ -53,3 +54,13 @@ still heard t =
 -- it says nothing: no bid, nothing to send or to acknowledge
 unfoldable pub mute : Turn → Bool
 mute t = cond (t .station .admitted) false (skipsQuiet (t .station .phase))
+
+-- it takes an answer from its reply book as a slot begins
+abbrev pub owes : Phase → Bool
+owes Silent = false
+owes (Reading c p a) = false
+owes (Sending at p a) = false
+owes (Awaiting p a) = false
+owes (Judging p a matched acknowledged) = false
+owes Owing = true
+owes Releasing = false

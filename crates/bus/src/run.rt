@@ -30,7 +30,7 @@ impl Bus {
                     continue;
                 }
                 let u = self.turns[i];
-                word = slot::wired(word, slot::said_by(u));
+                word = slot::wired(word, still::said_by(u));
             }
             if rest::by_tens(self.quiet, restless, left) {
                 self.slot = std::num::wrapping_add_u32(self.slot, left - left % 10);
@@ -45,7 +45,7 @@ impl Bus {
                     continue;
                 }
                 let u = self.turns[j];
-                let v = slot::turned(u, word);
+                let v = still::turned(u, word);
                 told = rest::or_told(told, v);
                 self.turns[j] = v;
             }

@@ -1,11 +1,10 @@
 // One slot: what all hear, the AND of what is said or the disturbance, and what each station makes of it.
 ghost use mathlib.Core.Path.{_≡_};
-ghost use Rattle.bus.specs.Slot.{wired, generatorSays, generatorNext, saidBy, spoken, turned, slotHeard, slotRun};
+ghost use Rattle.bus.specs.Slot.{wired, generatorSays, generatorNext, spoken, slotHeard, slotRun};
 use crate::bus::Bus;
 use crate::still;
 use station::phase::Sound;
 use station::station::Station;
-use station::station::Turn;
 
 // The bus is LOW-active: all hear the bitwise AND.
 pub(crate) fn wired(a: Sound, b: Sound) -> Sound
@@ -18,22 +17,6 @@ pub(crate) fn wired(a: Sound, b: Sound) -> Sound
             Sound::Symbol(y) => Sound::Symbol(x & y),
         },
     }
-}
-
-// What a station says, made ready for the slot.
-pub(crate) fn said_by(t: Turn) -> Sound
-    ensures { λ r. ⌜ r ≡ saidBy t ⌝ }
-{
-    let s = t.station;
-    s.ready().say()
-}
-
-// What a station makes of what is heard.
-pub(crate) fn turned(t: Turn, heard: Sound) -> Turn
-    ensures { λ r. ⌜ r ≡ turned heard t ⌝ }
-{
-    let s = t.station;
-    s.ready().hear(heard)
 }
 
 // The generator sends AA after nine quiet slots in a row.
@@ -80,8 +63,7 @@ impl Bus {
             if still::mute(t) {
                 continue;
             }
-            let u = self.turns[i];
-            word = wired(word, said_by(u));
+            word = wired(word, still::said_by(t));
         }
         word
     }
@@ -98,7 +80,7 @@ impl Bus {
                 continue;
             }
             let u = self.turns[i];
-            self.turns[i] = turned(u, heard);
+            self.turns[i] = still::turned(u, heard);
         }
         self.slot = std::num::wrapping_add_u32(self.slot, 1);
         self.ran = true;

@@ -1,7 +1,8 @@
-// A way to be fast, no rule: a station that the slot leaves as it is, and one that says nothing, are passed by.
-// Proved equal to the rule: what is passed by would have come to the same.
+// A way to be fast, no rule; proved equal to it: a station that the slot leaves as it is, and one that says nothing, are
+// passed by, and who owes no answer is ready as it is.
 ghost use mathlib.Core.Path.{_≡_};
-ghost use Rattle.bus.specs.Still.{skipsQuiet, skipsSymbol, skips, still, mute};
+ghost use Rattle.bus.specs.Still.{skipsQuiet, skipsSymbol, skips, still, mute, owes};
+ghost use Rattle.bus.specs.Slot.{saidBy, turned};
 use crate::rest;
 use station::phase::Phase;
 use station::phase::Since;
@@ -117,4 +118,60 @@ pub(crate) fn mute(t: Turn) -> bool
     }
     let phase = s.phase;
     skips_quiet(phase)
+}
+
+fn owes(p: Phase) -> bool
+    ensures { λ r. ⌜ r ≡ owes p ⌝ }
+{
+    match p {
+        Phase::Silent => false,
+        Phase::Reading {
+            cursor: _,
+            part: _,
+            attempt: _,
+        } => false,
+        Phase::Sending {
+            at: _,
+            part: _,
+            attempt: _,
+        } => false,
+        Phase::Awaiting {
+            part: _,
+            attempt: _,
+        } => false,
+        Phase::Judging {
+            part: _,
+            attempt: _,
+            matched: _,
+            acknowledged: _,
+        } => false,
+        Phase::Owing => true,
+        Phase::Releasing => false,
+    }
+}
+
+// What a station says, made ready for the slot.
+pub(crate) fn said_by(t: Turn) -> Sound
+    ensures { λ r. ⌜ r ≡ saidBy t ⌝ }
+{
+    let s = t.station;
+    let phase = s.phase;
+    if owes(phase) {
+        s.ready().say()
+    } else {
+        s.say()
+    }
+}
+
+// What a station makes of what is heard.
+pub(crate) fn turned(t: Turn, heard: Sound) -> Turn
+    ensures { λ r. ⌜ r ≡ turned heard t ⌝ }
+{
+    let s = t.station;
+    let phase = s.phase;
+    if owes(phase) {
+        s.ready().hear(heard)
+    } else {
+        s.hear(heard)
+    }
 }

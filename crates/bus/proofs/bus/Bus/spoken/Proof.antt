@@ -58,12 +58,6 @@ loop-again c =
           (mute-says _ (sym (c .before .mute .ensures) ∙ c .if1 .taken)),
     )
 
-mul-u : tie.Need-mul-u Inv-loop μ-loop
-mul-u c = search needs
-
-element-copy-out-u : tie.Need-element-copy-out-u Inv-loop μ-loop
-element-copy-out-u c = search needs
-
 said-by-requires : tie.Need-said-by-requires Inv-loop μ-loop
 said-by-requires c κs = search needs
 
@@ -78,7 +72,7 @@ loop-less-2 c = omega arith
 
 loop-again-2 : tie.Need-loop-again-2 Inv-loop μ-loop
 loop-again-2 c =
-    let a = c .before .before .before .before .before .before .before in
+    let a = c .before .before .before .before .before .before in
     let b = a .before .before .before .args .t1 in
     let h : a .loop .i < length (b .turns) = omega (arith, attached-fit b) in (
       omega arith,
@@ -109,8 +103,6 @@ spoken-spec =
     add-i
     loop-less
     loop-again
-    mul-u
-    element-copy-out-u
     said-by-requires
     wired-requires
     add-i-2
