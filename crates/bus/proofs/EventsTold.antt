@@ -17,7 +17,7 @@ use Rattle.bus.specs.declared.find.Query.the-variants.{WasTold}
 use Rattle.bus.specs.Bus.{attachedTurns}
 use Rattle.bus.specs.Events.{those, linesOf, events}
 use Rattle.bus.specs.Find.{meets, firstOf, thereIs}
-use Rattle.bus.specs.Rest.{isTold}
+use Rattle.bus.specs.Told.{isTold}
 use Rattle.laws.proofs.FirstIs.{Every, none, next, missing-each, each-missing}
 
 nil-parts : {A : Type 0} (xs ys : List A) → xs ++ ys ≡ [] → (xs ≡ []) × (ys ≡ [])

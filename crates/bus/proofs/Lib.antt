@@ -4,6 +4,7 @@ pub mod EventsTold
 pub mod ExamplesHold
 pub mod Generator
 pub mod Loops
+pub mod PassedBy
 pub mod Reflects
 pub mod RefusedAttach
 pub mod RefusedChangesNothing

@@ -1,83 +1,80 @@
--- A stride of `run` is as many slots, one after the other. Assumes nothing.
+-- A turn of `run`'s loop, whole tens at once or one slot, is as many slots, one after the other. Assumes nothing.
 use mathlib.Core.Path.{_≡_, refl, sym, ap, _∙_}
 use mathlib.Core.Bool.{Bool, true, false, cond}
-use Prim.Native.Nat.{ℕ, zero, suc, _-_, _%_, _≤_, _<_}
+use Prim.Native.Nat.{ℕ, zero, suc, _+_, _-_, _%_, _^_, _≤_, _<_}
 use native.Mathlib.Omega.{arith}
-use borrow.Author.Tests.{ltb-true, lt-ltb}
+use borrow.Author.Tests.{ltb-true}
 use lib.Dec.{ltb}
+use Rattle.station.specs.declared.phase.Sound.{Sound}
 use Rattle.bus.specs.declared.bus.Bus.{Bus}
-use Rattle.bus.specs.declared.find.Query.the-variants.{WasTold}
+use Rattle.bus.specs.declared.find.Query.the-variants.{WasTold, Restless}
 use Rattle.bus.specs.declared.run.Stop.{Stop}
+use Rattle.bus.specs.Bus.{attachedTo}
 use Rattle.bus.specs.Find.{thereIs}
-use Rattle.bus.specs.Run.{runs, atRest, later, oneSlot, stride}
-use Rattle.bus.specs.Slot.{slotRun}
-use Rattle.bus.proofs.Tens.{tens, rest-tells-nobody}
+use Rattle.bus.specs.Run.{runs}
+use Rattle.bus.specs.Slot.{generatorNext, spoken, turned, mapFirst, slotHeard, slotRun}
+use Rattle.bus.specs.Strides.{restsWith, atRest, byTens}
+use Rattle.bus.proofs.Tens.{and-second, slotsLater, tens}
 
--- a run that goes on from where a stride came to: it stops there if somebody was told something
-abbrev goesOn : Bool → Stop → Stop
-goesOn told s = cond told s (runs (s .left) (s .bus))
+-- ---- whole tens
 
--- one slot
-one : (b : Bus) (n : ℕ) → runs (suc n) b ≡ goesOn (thereIs (slotRun b) WasTold) (record { bus = slotRun b; left = n })
-unfolding runs
-one b n = refl
+tens-mean : (b : Bus) (restless : Bool) (left : ℕ) → restless ≡ thereIs b Restless → byTens (b .quiet) restless left ≡ true
+    → (9 < left) × (atRest b ≡ true)
+unfolding byTens atRest
+tens-mean b restless left e h =
+    let f = and-second (ltb 9 left) _ h in
+    (ltb-true 9 left (f .0), ap (restsWith (b .quiet)) (sym e) ∙ f .1)
 
-one-slot : (b : Bus) (left : ℕ) → 0 < left → runs left b ≡ goesOn (thereIs (oneSlot b left .bus) WasTold) (oneSlot b left)
-one-slot b zero h = absurd (omega arith)
-one-slot b (suc n) h =
-    let e : suc n - 1 ≡ n = omega arith in
-    rw (e) (one b n)
+pub tens-on : (b : Bus) (restless : Bool) (left : ℕ) → restless ≡ thereIs b Restless → byTens (b .quiet) restless left ≡ true
+    → runs left b ≡ runs (left % 10) (slotsLater b (left - left % 10))
+tens-on b restless left e h =
+    let m = tens-mean b restless left e h in
+    tens left b (m .1) (m .0)
 
--- whole tens
-tens-on : (b : Bus) (left : ℕ) → atRest b ≡ true → 9 < left
-    → runs left b ≡ goesOn (thereIs (later b (left - left % 10)) WasTold) (record { bus = later b (left - left % 10); left = left % 10 })
-unfolding later
-tens-on b left e h = rw (rest-tells-nobody b (left - left % 10) e) (tens left b e h)
+pub tens-less : (b : Bus) (restless : Bool) (left : ℕ) → restless ≡ thereIs b Restless → byTens (b .quiet) restless left ≡ true
+    → left % 10 < left
+tens-less b restless left e h = omega (arith, tens-mean b restless left e h .0)
 
--- what holds of both ways on holds of the one that is taken
-either : (P : Stop → Type 0) (t : Bool) (x y : Stop) → (t ≡ true → P x) → (t ≡ false → P y) → P (cond t x y)
-either P true x y p q = p refl
-either P false x y p q = q refl
+-- ---- one slot
 
-stride-on : (b : Bus) (left : ℕ) → 0 < left
-    → runs left b ≡ goesOn (thereIs (stride b left .bus) WasTold) (stride b left)
-unfolding stride
-stride-on b left h =
-    let P : Stop → Type 0 = λ s. runs left b ≡ goesOn (thereIs (s .bus) WasTold) s in
-    let slot = one-slot b left h in
-    rw (lt-ltb 0 left h)
-    (either P (ltb 9 left) _ (oneSlot b left)
-    (λ many. either P (atRest b) _ (oneSlot b left) (λ rest. tens-on b left rest (ltb-true 9 left many)) (λ _. slot))
-    (λ _. slot))
+heard-is : (b next : Bus) (word : Sound) → next .turns ≡ mapFirst (turned word) (attachedTo b) (b .turns) → next .count ≡ b .count
+    → next .slot ≡ (b .slot + 1) % 2 ^ 32 → next .ran ≡ true → next .quiet ≡ generatorNext (b .quiet) word → next ≡ slotHeard b word
+unfolding slotHeard
+heard-is b next word t c s r q = λ i. record { turns = t i; count = c i; slot = s i; ran = r i; quiet = q i }
 
-stride-less : (b : Bus) (left : ℕ) → 0 < left → stride b left .left < left
-unfolding stride
-stride-less b left h =
-    let P : Stop → Type 0 = λ s. s .left < left in
-    let slot : left - 1 < left = omega arith in
-    rw (lt-ltb 0 left h)
-    (either P (ltb 9 left) _ (oneSlot b left)
-    (λ many. either P (atRest b) _ (oneSlot b left) (λ rest. omega (arith, ltb-true 9 left many)) (λ _. slot))
-    (λ _. slot))
+slot-spoken : (b : Bus) {word : Sound} → word ≡ spoken b → slotHeard b word ≡ slotRun b
+unfolding slotRun
+slot-spoken b w = ap (slotHeard b) w
 
--- ---- the loop of `run`, where a stride came to s
+-- the bus after the slot, field by field
+pub slot-is : (b next : Bus) (word : Sound) → word ≡ spoken b
+    → next .turns ≡ mapFirst (turned word) (attachedTo b) (b .turns) → next .count ≡ b .count
+    → next .slot ≡ (b .slot + 1) % 2 ^ 32 → next .ran ≡ true → next .quiet ≡ generatorNext (b .quiet) word → next ≡ slotRun b
+slot-is b next word w t c s r q = heard-is b next word t c s r q ∙ slot-spoken b w
 
--- somebody was told something: the run stops there
-pub stops : (b : Bus) (left : ℕ) (s : Stop) → 0 < left → s ≡ stride b left → thereIs (s .bus) WasTold ≡ true → runs left b ≡ s
-stops b left s h e t = stride-on b left h ∙ ap (λ (x : Stop). goesOn (thereIs (x .bus) WasTold) x) (sym e) ∙ rw t
+-- ---- one slot of the run
 
--- nobody was: it goes on from there
-pub continues : (b : Bus) (left : ℕ) (s : Stop) → 0 < left → s ≡ stride b left → thereIs (s .bus) WasTold ≡ false
-    → runs left b ≡ runs (s .left) (s .bus)
-continues b left s h e t = stride-on b left h ∙ ap (λ (x : Stop). goesOn (thereIs (x .bus) WasTold) x) (sym e) ∙ rw t
+module _ (b next : Bus) (left : ℕ) (some : 0 < left) (e : next ≡ slotRun b) where
+  one : (n : ℕ) → runs (suc n) b ≡ cond (thereIs next WasTold) (record { bus = next; left = n }) (runs n next)
+  unfolding runs
+  one n = rw e
 
--- less is left
-pub less-left : (b : Bus) (left : ℕ) (s : Stop) → 0 < left → s ≡ stride b left → s .left < left
-less-left b left s h e = rw e (stride-less b left h)
+  one-left : runs left b ≡ cond (thereIs next WasTold) (record { bus = next; left = left - 1 }) (runs (left - 1) next)
+  one-left =
+      let f : suc (left - 1) ≡ left = omega arith in
+      ap (λ (k : ℕ). runs k b) (sym f) ∙ one (left - 1)
+
+  -- somebody was told something: the run stops there
+  pub stops : thereIs next WasTold ≡ true → runs left b ≡ record { bus = next; left = left - 1 }
+  stops t = one-left ∙ rw t
+
+  -- nobody was: it goes on from there
+  pub continues : thereIs next WasTold ≡ false → runs left b ≡ runs (left - 1) next
+  continues t = one-left ∙ rw t
 
 -- nothing is left
-pub ends : (s : Stop) → s .left ≤ 0 → runs (s .left) (s .bus) ≡ s
+pub ends : (b : Bus) (left : ℕ) → left ≤ 0 → runs left b ≡ record { bus = b; left = left }
 unfolding runs
-ends s h =
-    let e : s .left ≡ 0 = omega arith in
+ends b left h =
+    let e : left ≡ 0 = omega arith in
     rw e

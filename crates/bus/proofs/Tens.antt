@@ -40,23 +40,25 @@ use Rattle.bus.specs.declared.bus.Bus.{Bus}
 use Rattle.bus.specs.declared.find.Query.the-variants.{WasTold, Restless}
 use Rattle.bus.specs.Bus.{attachedTo, attachedTurns}
 use Rattle.bus.specs.Find.{meets, firstOf, thereIs}
-use Rattle.bus.specs.Rest.{isTold, isQq, atStart, firstMaster, fromStart, idleSince, idle, rests}
-use Rattle.bus.specs.Run.{runs, atRest}
+use Rattle.bus.specs.Rest.{isQq, atStart, firstMaster, fromStart, idleSince, idle, rests}
+use Rattle.bus.specs.Run.{runs}
 use Rattle.bus.specs.Slot.{wired, patience, generatorSays, saidBy, spokenWith, spoken, turned, mapFirst, slotHeard, slotRun}
+use Rattle.bus.specs.Strides.{atRest}
+use Rattle.bus.specs.Told.{isTold}
 use Rattle.laws.proofs.FirstIs.{Every, none, next, every-map, missing-each, each-missing}
 
 -- ---- a station at rest
 
 -- both tests of a chain
-not-first : (a b : Bool) → cond a false b ≡ true → (a ≡ false) × (b ≡ true)
+pub not-first : (a b : Bool) → cond a false b ≡ true → (a ≡ false) × (b ≡ true)
 not-first true b e = absurd (false≢true e)
 not-first false b e = (refl, e)
 
-and-second : (a b : Bool) → cond a b false ≡ true → (a ≡ true) × (b ≡ true)
+pub and-second : (a b : Bool) → cond a b false ≡ true → (a ≡ true) × (b ≡ true)
 and-second true b e = (refl, e)
 and-second false b e = absurd (false≢true e)
 
-silence : (t : Told) → isTold t ≡ false → t ≡ Silence
+pub silence : (t : Told) → isTold t ≡ false → t ≡ Silence
 silence Silence e = refl
 silence Owns e = absurd (true≢false e)
 silence Taken e = absurd (true≢false e)

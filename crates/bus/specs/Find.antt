@@ -12,7 +12,8 @@ use Rattle.bus.specs.declared.bus.Bus.{Bus}
 use Rattle.bus.specs.declared.find.Query.{Query}
 use Rattle.bus.specs.declared.find.Query.the-variants.{Master, Slave, Holder, WasTold, Restless}
 use Rattle.bus.specs.Bus.{attachedTurns}
-use Rattle.bus.specs.Rest.{isTold, rests}
+use Rattle.bus.specs.Rest.{rests}
+use Rattle.bus.specs.Told.{isTold}
 
 -- the address at which a station is a slave
 unfoldable pub slaveAddress : Station → ℕ

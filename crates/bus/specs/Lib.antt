@@ -10,3 +10,6 @@ pub mod Reply
 pub mod Rest
 pub mod Run
 pub mod Slot
+pub mod Still
+pub mod Strides
+pub mod Told

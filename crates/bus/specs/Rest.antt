@@ -1,6 +1,8 @@
+-- A way to be fast, no rule; proved equal to it (proofs/Tens.antt). A reader of the rules can pass it by.
 -- A station at rest: an AA was heard, only quiet since, no telegram held, no mark; it reads from the start and is told nothing.
 -- Assumes nothing.
 use mathlib.Core.Bool.{Bool, true, false, cond}
+use Prim.Native.Nat.{ℕ}
 use lib.Dec.{eqb}
 use Rattle.wire.specs.declared.reader.Cursor.{Cursor}
 use Rattle.wire.specs.declared.reader.Place.{Place}
@@ -14,20 +16,9 @@ use Rattle.station.specs.declared.phase.Phase.{Phase}
 use Rattle.station.specs.declared.phase.Phase.the-variants.{Silent, Reading, Sending, Awaiting, Judging, Owing, Releasing}
 use Rattle.station.specs.declared.phase.Since.{Since}
 use Rattle.station.specs.declared.phase.Since.the-variants.{Nothing, OneSymbol, ManyOrNoSyn}
-use Rattle.station.specs.declared.phase.Told.{Told}
-use Rattle.station.specs.declared.phase.Told.the-variants.{Silence, Owns, Taken, Failed, Free, FailedFree, Given, Answered}
 use Rattle.station.specs.declared.station.Station.{Station}
 use Rattle.station.specs.declared.station.Turn.{Turn}
-
-abbrev pub isTold : Told → Bool
-isTold Silence = false
-isTold Owns = true
-isTold Taken = true
-isTold (Failed f) = true
-isTold Free = true
-isTold (FailedFree f) = true
-isTold Given = true
-isTold Answered = true
+use Rattle.bus.specs.Told.{isTold}
 
 abbrev pub isQq : Place → Bool
 isQq Qq = true

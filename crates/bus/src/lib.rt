@@ -8,3 +8,4 @@ mod reply;
 mod rest;
 pub mod run;
 mod slot;
+mod still;

@@ -1,6 +1,11 @@
+// A way to be fast, no rule; proved equal to it (run.rt): a bus at rest goes on in whole tens.
 // A station at rest: an AA was heard, only quiet since, no telegram held, no mark; it reads from the start and is told nothing.
 ghost use mathlib.Core.Path.{_≡_};
-ghost use Rattle.bus.specs.Rest.{isTold, atStart, fromStart, idle, rests};
+ghost use Rattle.bus.specs.declared.find.Query.the-variants.{WasTold, Restless};
+ghost use Rattle.bus.specs.Told.{isTold};
+ghost use Rattle.bus.specs.Rest.{atStart, fromStart, idle, rests};
+ghost use Rattle.bus.specs.Strides.{orMeets, byTens};
+use crate::bus::Bus;
 use station::phase::Attempt;
 use station::phase::Phase;
 use station::phase::Since;
@@ -125,5 +130,49 @@ pub(crate) fn rests(t: Turn) -> bool
     } else {
         let s = t.station;
         idle(s)
+    }
+}
+
+// Whether one so far or this one is anything but at rest.
+pub(crate) fn or_restless(already: bool, t: Turn) -> bool
+    ensures { λ r. ⌜ r ≡ orMeets Restless already t ⌝ }
+{
+    if already {
+        true
+    } else if rests(t) {
+        false
+    } else {
+        true
+    }
+}
+
+// Whether one so far or this one was told something.
+pub(crate) fn or_told(already: bool, t: Turn) -> bool
+    ensures { λ r. ⌜ r ≡ orMeets WasTold already t ⌝ }
+{
+    if already {
+        true
+    } else {
+        let told = t.told;
+        is_told(told)
+    }
+}
+
+// Whether the slots that are left go by in tens: ten or more, after an AA and at least one quiet slot, with nobody restless.
+pub(crate) fn by_tens(quiet: u8, restless: bool, left: u32) -> bool
+    ensures { λ r. ⌜ r ≡ byTens quiet restless left ⌝ }
+{
+    if 9 < left {
+        if quiet == 0 {
+            false
+        } else if Bus::PATIENCE < quiet {
+            false
+        } else if restless {
+            false
+        } else {
+            true
+        }
+    } else {
+        false
     }
 }

@@ -1,8 +1,11 @@
-// A run of undisturbed slots: one by one, and over a bus at rest in whole tens.
+// A run of undisturbed slots. The rule is `runs` alone; the loops here are a way to be fast, proved equal to it: the bus stays
+// where it is from slot to slot, stations that a slot leaves as they are are passed by, and a bus at rest goes on in whole tens.
 ghost use mathlib.Core.Path.{_≡_};
-ghost use Rattle.bus.specs.Run.{atRest, later, stride, runs};
+ghost use Rattle.bus.specs.Run.{runs};
 use crate::bus::Bus;
-use crate::find::Query;
+use crate::rest;
+use crate::slot;
+use crate::still;
 
 // The bus where a run stopped, and the slots that are left to run.
 pub struct Stop {
@@ -12,70 +15,47 @@ pub struct Stop {
 
 impl Bus {
     // Undisturbed slots, one after the other, until none is left or somebody is told something.
-    pub fn run(self, slots: u32) -> Stop
+    pub fn run(mut self, slots: u32) -> Stop
         ensures { λ r. ⌜ r ≡ runs slots self ⌝ }
     {
-        let mut stop = Stop {
-            bus: self,
-            left: slots,
-        };
-        while 0 < stop.left {
-            let left = stop.left;
-            let bus = stop.bus;
-            stop = bus.stride(left);
-            let after = stop.bus;
-            if after.there_is(Query::WasTold) {
-                return stop;
-            }
-        }
-        stop
-    }
-
-    // After an AA and at least one quiet slot, with nobody about to do anything.
-    fn at_rest(self) -> bool
-        ensures { λ r. ⌜ r ≡ atRest self ⌝ }
-    {
-        if self.quiet == 0 {
-            false
-        } else if Bus::PATIENCE < self.quiet {
-            false
-        } else if self.there_is(Query::Restless) {
-            false
-        } else {
-            true
-        }
-    }
-
-    fn later(mut self, slots: u32) -> Bus
-        ensures { λ r. ⌜ r ≡ later self slots ⌝ }
-    {
-        self.slot = std::num::wrapping_add_u32(self.slot, slots);
-        self.ran = true;
-        self
-    }
-
-    // A bus at rest comes back to the same state every ten slots, but for its slot number.
-    fn stride(self, left: u32) -> Stop
-        ensures { λ r. ⌜ r ≡ stride self left ⌝ }
-    {
-        if 0 < left {
-            let fewer = left - 1;
-            if 9 < left {
-                if self.at_rest() {
-                    return Stop {
-                        bus: self.later(left - left % 10),
-                        left: left % 10,
-                    };
+        let n = self.attached();
+        let mut left = slots;
+        while 0 < left {
+            let mut word = slot::generator_says(self.quiet);
+            let mut restless = false;
+            for i in 0..n {
+                let t = self.turns[i];
+                restless = rest::or_restless(restless, t);
+                if still::mute(t) {
+                    continue;
                 }
-                return Stop {
-                    bus: self.slot(),
-                    left: fewer,
-                };
+                let u = self.turns[i];
+                word = slot::wired(word, still::said_by(u));
             }
-            return Stop {
-                bus: self.slot(),
-                left: fewer,
-            };
+            if rest::by_tens(self.quiet, restless, left) {
+                self.slot = std::num::wrapping_add_u32(self.slot, left - left % 10);
+                self.ran = true;
+                left = left % 10;
+                continue;
+            }
+            let mut told = false;
+            for j in 0..n {
+                let t = self.turns[j];
+                if still::still(t, word) {
+                    continue;
+                }
+                let u = self.turns[j];
+                let v = still::turned(u, word);
+                told = rest::or_told(told, v);
+                self.turns[j] = v;
+            }
+            self.slot = std::num::wrapping_add_u32(self.slot, 1);
+            self.ran = true;
+            self.quiet = slot::generator_next(self.quiet, word);
+            left -= 1;
+            if told {
+                break;
+            }
         }
         Stop {
             bus: self,

@@ -1,13 +1,13 @@
 // One slot: what all hear, the AND of what is said or the disturbance, and what each station makes of it.
 ghost use mathlib.Core.Path.{_≡_};
-ghost use Rattle.bus.specs.Slot.{wired, generatorSays, generatorNext, spoken, turned, slotHeard, slotRun};
+ghost use Rattle.bus.specs.Slot.{wired, generatorSays, generatorNext, spoken, slotHeard, slotRun};
 use crate::bus::Bus;
+use crate::still;
 use station::phase::Sound;
 use station::station::Station;
-use station::station::Turn;
 
 // The bus is LOW-active: all hear the bitwise AND.
-fn wired(a: Sound, b: Sound) -> Sound
+pub(crate) fn wired(a: Sound, b: Sound) -> Sound
     ensures { λ r. ⌜ r ≡ wired a b ⌝ }
 {
     match a {
@@ -19,16 +19,29 @@ fn wired(a: Sound, b: Sound) -> Sound
     }
 }
 
-// What a station makes of what is heard.
-fn turned(t: Turn, heard: Sound) -> Turn
-    ensures { λ r. ⌜ r ≡ turned heard t ⌝ }
+// The generator sends AA after nine quiet slots in a row.
+pub(crate) fn generator_says(quiet: u8) -> Sound
+    ensures { λ r. ⌜ r ≡ generatorSays quiet ⌝ }
 {
-    let s = t.station;
-    s.ready().hear(heard)
+    if quiet < Bus::PATIENCE {
+        Sound::Quiet
+    } else {
+        Sound::Symbol(Station::SYN)
+    }
+}
+
+// Its count is 0 after any heard symbol and after a slot in which it sent.
+pub(crate) fn generator_next(quiet: u8, heard: Sound) -> u8
+    ensures { λ r. ⌜ r ≡ generatorNext quiet heard ⌝ }
+{
+    match heard {
+        Sound::Quiet => { if quiet < Bus::PATIENCE { quiet + 1 } else { 0 } }
+        Sound::Symbol(_) => 0,
+    }
 }
 
 impl Bus {
-    // The generator sends AA after nine quiet slots in a row.
+    // Quiet slots in a row that the generator waits for.
     pub(crate) const PATIENCE: u8 = 9;
 
     // An undisturbed slot.
@@ -44,41 +57,15 @@ impl Bus {
         ensures { λ r. ⌜ r ≡ spoken self ⌝ }
     {
         let n = self.attached();
-        let mut word = self.generator_says();
-        let mut i: usize = 0;
-        while i < n {
+        let mut word = generator_says(self.quiet);
+        for i in 0..n {
             let t = self.turns[i];
-            let s = t.station;
-            word = wired(word, s.ready().say());
-            i += 1;
+            if still::mute(t) {
+                continue;
+            }
+            word = wired(word, still::said_by(t));
         }
         word
-    }
-
-    fn generator_says(self) -> Sound
-        ensures { λ r. ⌜ r ≡ generatorSays (self .quiet) ⌝ }
-    {
-        if self.quiet < Bus::PATIENCE {
-            Sound::Quiet
-        } else {
-            Sound::Symbol(Station::SYN)
-        }
-    }
-
-    // Its count is 0 after any heard symbol and after a slot in which it sent.
-    fn generator_next(self, heard: Sound) -> u8
-        ensures { λ r. ⌜ r ≡ generatorNext (self .quiet) heard ⌝ }
-    {
-        match heard {
-            Sound::Quiet => {
-                if self.quiet < Bus::PATIENCE {
-                    self.quiet + 1
-                } else {
-                    0
-                }
-            }
-            Sound::Symbol(_) => 0,
-        }
     }
 
     // A slot that all hear as given.
@@ -86,13 +73,14 @@ impl Bus {
         ensures { λ r. ⌜ r ≡ slotHeard self heard ⌝ }
     {
         let n = self.attached();
-        let quiet = self.generator_next(heard);
-        let mut i: usize = 0;
-        while i < n {
+        let quiet = generator_next(self.quiet, heard);
+        for i in 0..n {
             let t = self.turns[i];
-            let u = turned(t, heard);
-            self.turns[i] = u;
-            i += 1;
+            if still::still(t, heard) {
+                continue;
+            }
+            let u = self.turns[i];
+            self.turns[i] = still::turned(u, heard);
         }
         self.slot = std::num::wrapping_add_u32(self.slot, 1);
         self.ran = true;

@@ -10,8 +10,24 @@ pub struct Load {
     pub slots: u32,
 }
 
-pub fn all() -> [Load; 4] {
-    [Load { name: "empty", scenario: Vec::new(), slots: 0 }, idle(), busy(), rest()]
+pub fn all() -> [Load; 11] {
+    [
+        empty(),
+        idle(),
+        busy(),
+        rest(),
+        answers(),
+        sender("1 of 1", 1, NOBODY),
+        sender("1 of 8", 8, NOBODY),
+        sender("1 of 32", 32, NOBODY),
+        sender("all of 1", 1, BROADCAST),
+        sender("all of 8", 8, BROADCAST),
+        sender("all of 32", 32, BROADCAST),
+    ]
+}
+
+fn empty() -> Load {
+    Load { name: "empty", scenario: Vec::new(), slots: 0 }
 }
 
 fn masters() -> Vec<u8> {
@@ -24,7 +40,7 @@ fn idle() -> Load {
     for address in masters() {
         scenario::write(&mut scenario, &Op::Master(address));
     }
-    for address in 0x50..0x57 {
+    for address in SLAVES {
         scenario::write(&mut scenario, &Op::Slave(address));
     }
     scenario::write(&mut scenario, &Op::Heard(SYN));
@@ -35,39 +51,99 @@ fn idle() -> Load {
     Load { name: "idle", scenario, slots: quiet as u32 + 1 }
 }
 
-/// All masters with full queues, run until they are empty, as often as a file
-/// holds it. Each telegram goes to the slave address of the next master.
+/// All masters with full queues. Each telegram goes to the slave address of
+/// the next master.
 fn busy() -> Load {
     let masters = masters();
-    let mut bus = Bus::new();
-    let mut scenario = Vec::new();
-    for &address in &masters {
-        scenario::write(&mut scenario, &Op::Master(address));
-        bus.attach_master(address).expect("25 masters fit");
+    let mut file = File::new("busy", &masters, &[]);
+    let next = |place: usize| slave_of(masters[(place + 1) % masters.len()]);
+    let round = full(&masters, |place| ([masters[place], next(place), 0x50, 0x02], &[]));
+    file.fill(&round)
+}
+
+/// The most slots in which somebody is awake that were found for a file: every
+/// seat taken, and each telegram, of the fewest bytes, fetches the longest answer.
+fn answers() -> Load {
+    let masters = masters();
+    let mut file = File::new("answers", &masters, &SLAVES);
+    for address in SLAVES {
+        let reply = Op::Reply { address, pb: 0x50, sb: 0x02, data: &LONG };
+        scenario::write(&mut file.scenario, &reply);
+        file.bus.reply(address, 0x50, 0x02, &LONG).expect("the book is empty");
     }
-    let mut slots = 0;
-    loop {
-        let mut round = Vec::new();
-        for (place, &source) in masters.iter().enumerate() {
-            let target = slave_of(masters[(place + 1) % masters.len()]);
-            let head = [source, target, 0x50, 0x02];
-            for _ in 0..4 {
-                scenario::write(&mut round, &Op::Queue { head, data: &[] });
-                bus.queue(head, &[]).expect("the queue is empty");
+    let slave = |place: usize| SLAVES[place % SLAVES.len()];
+    let round = full(&masters, |place| ([masters[place], slave(place), 0x50, 0x02], &[]));
+    file.fill(&round)
+}
+
+/// So many stations, one of which sends the longest parts that there are: to an
+/// address that nobody has, and the others are silent from its ZZ on, or to all.
+fn sender(name: &'static str, stations: usize, target: u8) -> Load {
+    let masters = masters();
+    let seated = masters.len().min(stations);
+    let mut file = File::new(name, &masters[..seated], &SLAVES[..stations - seated]);
+    file.fill(&full(&masters[..1], |_| ([masters[0], target, 0x50, 0x02], &LONG)))
+}
+
+const SLAVES: [u8; 7] = [0x50, 0x51, 0x52, 0x53, 0x54, 0x55, 0x56];
+const NOBODY: u8 = 0x60;
+const BROADCAST: u8 = 0xFE;
+/// Data whose every byte is two symbols on the wire.
+const LONG: [u8; 16] = [0xA9; 16];
+
+/// Four telegrams for each of the masters.
+fn full<'a>(
+    masters: &[u8],
+    telegram: impl Fn(usize) -> ([u8; 4], &'a [u8]),
+) -> Vec<([u8; 4], &'a [u8])> {
+    (0..4 * masters.len()).map(|turn| telegram(turn / 4)).collect()
+}
+
+/// A scenario as it grows, and the bus that it makes.
+struct File {
+    name: &'static str,
+    scenario: Vec<u8>,
+    bus: Bus,
+}
+
+impl File {
+    fn new(name: &'static str, masters: &[u8], slaves: &[u8]) -> File {
+        let mut file = File { name, scenario: Vec::new(), bus: Bus::new() };
+        for &address in masters {
+            scenario::write(&mut file.scenario, &Op::Master(address));
+            file.bus.attach_master(address).expect("25 masters fit");
+        }
+        for &address in slaves {
+            scenario::write(&mut file.scenario, &Op::Slave(address));
+            file.bus.attach_slave(address).expect("32 stations fit");
+        }
+        file
+    }
+
+    /// Queues these telegrams and runs until all are gone, as often as a file
+    /// holds it.
+    fn fill(&mut self, telegrams: &[([u8; 4], &[u8])]) -> Load {
+        let mut slots = 0;
+        loop {
+            let mut round = Vec::new();
+            for &(head, data) in telegrams {
+                scenario::write(&mut round, &Op::Queue { head, data });
+                self.bus.queue(head, data).expect("the queue is empty");
             }
+            let begin = self.bus.slot_number();
+            while self.bus.table().waiting() != 0 {
+                self.bus.run(1);
+                self.bus.forget_events();
+            }
+            let run = self.bus.slot_number() - begin;
+            scenario::write(&mut round, &Op::Run(run.try_into().expect("a round is a run")));
+            if self.scenario.len() + round.len() > MAX_BYTES {
+                let scenario = std::mem::take(&mut self.scenario);
+                return Load { name: self.name, scenario, slots };
+            }
+            self.scenario.extend(round);
+            slots += run;
         }
-        let begin = bus.slot_number();
-        while bus.table().waiting() != 0 {
-            bus.run(1);
-            bus.forget_events();
-        }
-        let run = bus.slot_number() - begin;
-        scenario::write(&mut round, &Op::Run(run as u16));
-        if scenario.len() + round.len() > MAX_BYTES {
-            return Load { name: "busy", scenario, slots };
-        }
-        scenario.extend(round);
-        slots += run;
     }
 }
 
@@ -93,7 +169,8 @@ mod tests {
             let printed = String::from_utf8(bench::run(&load.scenario).0).unwrap();
             let end = format!("end {}", load.slots);
             assert_eq!(printed.lines().last(), Some(end.as_str()), "{}", load.name);
-            assert!(!printed.contains("refused") && !printed.contains("failed"));
+            assert!(!printed.contains("refused"));
+            assert_eq!(printed.contains("failed"), load.name.starts_with("1 of"), "{}", load.name);
         }
     }
 }

@@ -1,13 +1,14 @@
 -- `bus::bus::Bus::slot_heard` meets its contract. Assumes nothing.
 use borrow.Author.Needs.{needs}
-use mathlib.Core.Path.{_≡_, refl}
+use mathlib.Core.Path.{_≡_, refl, sym, _∙_}
 use Prim.Native.Nat.{_≤_, _<_, _-_}
 use native.Mathlib.Omega.{arith}
 use lib.ListN.{length}
 use Rattle.laws.proofs.Lists.{length-mapped}
 use Rattle.bus.specs.Bus.{seats, attachedTo}
 use Rattle.bus.specs.Slot.{turned, mapFirst, slotHeard}
-use Rattle.bus.proofs.Loops.{attached-fit, mapFirst-turn}
+use Rattle.bus.proofs.Loops.{attached-fit, mapFirst-turn, mapFirst-passed}
+use Rattle.bus.proofs.PassedBy.{still-turned}
 use Rattle.bus.proofs.bus.Bus.slot_heard.Statement.{statement}
 use Rattle.bus.proofs.bus.Bus.slot_heard.Tie as tie
 
@@ -36,14 +37,8 @@ mul-t c = search needs
 element-copy-out-t : tie.Need-element-copy-out-t Inv-loop μ-loop
 element-copy-out-t c = search needs
 
-turned-requires : tie.Need-turned-requires Inv-loop μ-loop
-turned-requires c κs = search needs
-
-mul-u : tie.Need-mul-u Inv-loop μ-loop
-mul-u c = search needs
-
-element-set-from-u : tie.Need-element-set-from-u Inv-loop μ-loop
-element-set-from-u c = search needs
+still-requires : tie.Need-still-requires Inv-loop μ-loop
+still-requires c κs = search needs
 
 add-i : tie.Need-add-i Inv-loop μ-loop
 add-i c = omega arith
@@ -53,14 +48,49 @@ loop-less c = omega arith
 
 loop-again : tie.Need-loop-again Inv-loop μ-loop
 loop-again c =
-    let a = c .before .before .before in
-    let h : a .loop .i < length (a .before .before .before .args .t1 .turns) = omega arith in (
+    let a = c .before .before .before .before in
+    let g = a .before .before .before .args in
+    let h : a .loop .i < length (g .t1 .turns) = omega arith in (
       omega arith,
-      omega arith,
+      a .loop .inv .1,
       a .loop .inv .2,
       a .loop .inv .3,
-      mapFirst-turn (turned (a .before .before .before .args .heard)) _ _ _ h (a .loop .inv .4)
-          (c .turned .ensures),
+      mapFirst-passed (turned (g .heard)) _ _ _ h (a .loop .inv .4) (still-turned (g .heard) _ (sym (c .before .still .ensures) ∙ c .if1 .taken)),
+      a .loop .inv .5,
+      a .loop .inv .6,
+    )
+
+mul-u : tie.Need-mul-u Inv-loop μ-loop
+mul-u c = search needs
+
+element-copy-out-u : tie.Need-element-copy-out-u Inv-loop μ-loop
+element-copy-out-u c = search needs
+
+turned-requires : tie.Need-turned-requires Inv-loop μ-loop
+turned-requires c κs = search needs
+
+mul-t12 : tie.Need-mul-t12 Inv-loop μ-loop
+mul-t12 c = search needs
+
+element-set-from-self : tie.Need-element-set-from-self Inv-loop μ-loop
+element-set-from-self c = search needs
+
+add-i-2 : tie.Need-add-i-2 Inv-loop μ-loop
+add-i-2 c = omega arith
+
+loop-less-2 : tie.Need-loop-less-2 Inv-loop μ-loop
+loop-less-2 c = omega arith
+
+loop-again-2 : tie.Need-loop-again-2 Inv-loop μ-loop
+loop-again-2 c =
+    let a = c .before .before .before .before .before .before in
+    let g = a .before .before .before .args in
+    let h : a .loop .i < length (g .t1 .turns) = omega arith in (
+      omega arith,
+      a .loop .inv .1,
+      a .loop .inv .2,
+      a .loop .inv .3,
+      mapFirst-turn (turned (g .heard)) _ _ _ h (a .loop .inv .4) (c .turned .ensures),
       a .loop .inv .5,
       a .loop .inv .6,
     )
@@ -93,11 +123,17 @@ slot-heard-spec =
     loop-holds
     mul-t
     element-copy-out-t
-    turned-requires
-    mul-u
-    element-set-from-u
+    still-requires
     add-i
     loop-less
     loop-again
+    mul-u
+    element-copy-out-u
+    turned-requires
+    mul-t12
+    element-set-from-self
+    add-i-2
+    loop-less-2
+    loop-again-2
     wrapping-add-u32-requires
     returns)

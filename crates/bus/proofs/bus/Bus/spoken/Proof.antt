@@ -1,14 +1,14 @@
 -- `bus::bus::Bus::spoken` meets its contract. Assumes nothing.
 use borrow.Author.Needs.{needs}
-use mathlib.Core.Path.{_≡_, ap, _∙_}
-use Prim.Native.Nat.{ℕ, _≤_, _<_, _-_}
+use mathlib.Core.Path.{_≡_, sym, _∙_}
+use Prim.Native.Nat.{_≤_, _<_, _-_}
 use native.Mathlib.Omega.{arith}
 use lib.ListN.{length, take}
 use Rattle.laws.proofs.Lists.{length-mapped}
-use Rattle.station.specs.Station.{ready, says}
 use Rattle.bus.specs.Bus.{seats, attachedTo}
-use Rattle.bus.specs.Slot.{generatorSays, spokenWith, spoken}
-use Rattle.bus.proofs.Loops.{attached-fit, spoken-turn}
+use Rattle.bus.specs.Slot.{generatorSays, spokenWith}
+use Rattle.bus.proofs.Loops.{attached-fit, spoken-turn, spoken-passed, all-spoken}
+use Rattle.bus.proofs.PassedBy.{mute-says}
 use Rattle.bus.proofs.bus.Bus.spoken.Statement.{statement}
 use Rattle.bus.proofs.bus.Bus.spoken.Tie as tie
 
@@ -36,14 +36,8 @@ mul-t c = search needs
 element-copy-out-t : tie.Need-element-copy-out-t Inv-loop μ-loop
 element-copy-out-t c = search needs
 
-ready-requires : tie.Need-ready-requires Inv-loop μ-loop
-ready-requires c κs = search needs
-
-say-requires : tie.Need-say-requires Inv-loop μ-loop
-say-requires c κs = search needs
-
-wired-requires : tie.Need-wired-requires Inv-loop μ-loop
-wired-requires c κs = search needs
+mute-requires : tie.Need-mute-requires Inv-loop μ-loop
+mute-requires c κs = search needs
 
 add-i : tie.Need-add-i Inv-loop μ-loop
 add-i c = omega arith
@@ -53,6 +47,31 @@ loop-less c = omega arith
 
 loop-again : tie.Need-loop-again Inv-loop μ-loop
 loop-again c =
+    let a = c .before .before .before .before in
+    let b = a .before .before .before .args .t1 in
+    let h : a .loop .i < length (b .turns) = omega (arith, attached-fit b) in (
+      omega arith,
+      a .loop .inv .1,
+      a .loop .inv .2,
+      a .loop .inv .3,
+      spoken-passed (a .loop .i) (generatorSays (b .quiet)) (b .turns) _ h (a .loop .inv .4)
+          (mute-says _ (sym (c .before .mute .ensures) ∙ c .if1 .taken)),
+    )
+
+said-by-requires : tie.Need-said-by-requires Inv-loop μ-loop
+said-by-requires c κs = search needs
+
+wired-requires : tie.Need-wired-requires Inv-loop μ-loop
+wired-requires c κs = search needs
+
+add-i-2 : tie.Need-add-i-2 Inv-loop μ-loop
+add-i-2 c = omega arith
+
+loop-less-2 : tie.Need-loop-less-2 Inv-loop μ-loop
+loop-less-2 c = omega arith
+
+loop-again-2 : tie.Need-loop-again-2 Inv-loop μ-loop
+loop-again-2 c =
     let a = c .before .before .before .before .before .before in
     let b = a .before .before .before .args .t1 in
     let h : a .loop .i < length (b .turns) = omega (arith, attached-fit b) in (
@@ -60,17 +79,14 @@ loop-again c =
       a .loop .inv .1,
       a .loop .inv .2,
       a .loop .inv .3,
-      spoken-turn (a .loop .i) (generatorSays (b .quiet)) (b .turns) _ h (a .loop .inv .4)
-          (c .before .say .ensures ∙ ap says (c .before .before .ready .ensures))
-          (c .wired .ensures),
+      spoken-turn (a .loop .i) (generatorSays (b .quiet)) (b .turns) _ h (a .loop .inv .4) (c .before .said-by .ensures) (c .wired .ensures),
     )
 
 returns : tie.Need-returns Inv-loop μ-loop
-unfolding spoken
 returns c =
     let a = c .before in
-    let e : a .loop .i ≡ attachedTo (a .before .before .before .args .t1) = omega arith in
-    a .loop .inv .4 ∙ ap (λ (n : ℕ). spokenWith (generatorSays (a .before .before .before .args .t1 .quiet)) (take n (a .before .before .before .args .t1 .turns))) e
+    let b = a .before .before .before .args .t1 in
+    all-spoken b (a .loop .i) (omega (arith, a .loop .inv .2)) (a .loop .inv .4)
 
 pub spoken-spec : {M : Type 1} → statement M
 spoken-spec =
@@ -83,10 +99,13 @@ spoken-spec =
     loop-holds
     mul-t
     element-copy-out-t
-    ready-requires
-    say-requires
-    wired-requires
+    mute-requires
     add-i
     loop-less
     loop-again
+    said-by-requires
+    wired-requires
+    add-i-2
+    loop-less-2
+    loop-again-2
     returns)

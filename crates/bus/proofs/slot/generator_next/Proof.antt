@@ -1,9 +1,9 @@
--- `bus::bus::Bus::generator_next` meets its contract. Assumes nothing.
+-- `bus::slot::generator_next` meets its contract. Assumes nothing.
 use borrow.Author.Tests.{lt-ltb, le-ltb}
 use Rattle.bus.specs.Slot.{generatorNext}
 use borrow.Author.Needs.{needs}
-use Rattle.bus.proofs.bus.Bus.generator_next.Statement.{statement}
-use Rattle.bus.proofs.bus.Bus.generator_next.Tie as tie
+use Rattle.bus.proofs.slot.generator_next.Statement.{statement}
+use Rattle.bus.proofs.slot.generator_next.Tie as tie
 
 enum-told : tie.Need-enum-told
 enum-told c = search needs
@@ -18,8 +18,8 @@ returns : tie.Need-returns
 unfolding generatorNext
 returns c =
     simp (
-      lt-ltb _ _ (c .before .if1 .taken),
-      c .before .before .before .enum-told .given .1,
+      lt-ltb _ _ (c .if1 .taken),
+      c .before .enum-told .given .1,
     )
 
 returns-2 : tie.Need-returns-2
@@ -27,7 +27,7 @@ unfolding generatorNext
 returns-2 c =
     simp (
       le-ltb _ _ (c .if1 .left),
-      c .before .before .enum-told .given .1,
+      c .before .enum-told .given .1,
     )
 
 returns-3 : tie.Need-returns-3

@@ -1,8 +1,8 @@
--- `bus::bus::Bus::generator_says` meets its contract. Assumes nothing.
+-- `bus::slot::generator_says` meets its contract. Assumes nothing.
 use borrow.Author.Tests.{lt-ltb, le-ltb}
 use Rattle.bus.specs.Slot.{generatorSays}
-use Rattle.bus.proofs.bus.Bus.generator_says.Statement.{statement}
-use Rattle.bus.proofs.bus.Bus.generator_says.Tie as tie
+use Rattle.bus.proofs.slot.generator_says.Statement.{statement}
+use Rattle.bus.proofs.slot.generator_says.Tie as tie
 
 returns : tie.Need-returns
 unfolding generatorSays
