@@ -10,13 +10,14 @@ pub struct Load {
     pub slots: u32,
 }
 
-pub fn all() -> [Load; 11] {
+pub fn all() -> [Load; 12] {
     [
         empty(),
         idle(),
         busy(),
         rest(),
         answers(),
+        broadcasts(),
         sender("1 of 1", 1, NOBODY),
         sender("1 of 8", 8, NOBODY),
         sender("1 of 32", 32, NOBODY),
@@ -74,6 +75,14 @@ fn answers() -> Load {
     let slave = |place: usize| SLAVES[place % SLAVES.len()];
     let round = full(&masters, |place| ([masters[place], slave(place), 0x50, 0x02], &[]));
     file.fill(&round)
+}
+
+/// The most turns of stations that are awake that were found for a file: every
+/// seat taken, the masters collide, and all read the longest parts.
+fn broadcasts() -> Load {
+    let masters = masters();
+    let mut file = File::new("broadcasts", &masters, &SLAVES);
+    file.fill(&full(&masters, |place| ([masters[place], BROADCAST, 0x50, 0x02], &LONG)))
 }
 
 /// So many stations, one of which sends the longest parts that there are: to an
