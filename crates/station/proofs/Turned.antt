@@ -51,12 +51,12 @@ outboxAfter Given o = o
 outboxAfter Answered o = o
 
 -- failed 2, 3 and 5: an owner sends AA in the next slot
-data SendsAa : Failure → Type 0 where
+pub data SendsAa : Failure → Type 0 where
   after-2 : SendsAa WrongAck
   after-3 : SendsAa TwiceNak
   after-5 : SendsAa PairBroken
 
-owner-sends-aa : (x : Station) {f : Failure} → SendsAa f → ownerFails f x ≡ goes x Releasing (Failed f)
+pub owner-sends-aa : (x : Station) {f : Failure} → SendsAa f → ownerFails f x ≡ goes x Releasing (Failed f)
 owner-sends-aa x after-2 = refl
 owner-sends-aa x after-3 = refl
 owner-sends-aa x after-5 = refl

@@ -1,0 +1,13 @@
+pub mod Access
+pub mod AsObserved
+pub mod FailedWhen
+pub mod Generates
+pub mod HandsOut
+pub mod Headed
+pub mod Matches
+pub mod Observed
+pub mod Sentences
+pub mod Shares
+pub mod Slots
+pub mod Steps
+pub mod Verdicts

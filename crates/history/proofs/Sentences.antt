@@ -1,0 +1,166 @@
+-- Sentences of 01 from what is heard, after any calls from power-on, for every attached station and whatever all hear in the next
+-- slot: who owns the wire, and each failed number, exactly when. Assumes nothing.
+use mathlib.Core.Path.{_≡_, refl, sym, ap, subst, _∙_}
+use mathlib.Core.Logic.{_↔_}
+use mathlib.Core.Bool.{Bool, true, false, cond, true≢false, false≢true}
+use mathlib.Core.List.{List, [], _∷_, _++_}
+use Prim.Native.Nat.{ℕ, _≤_, _<_}
+use native.Mathlib.Omega.{arith}
+use lib.Dec.{eqb}
+use Rattle.wire.specs.Form.{answerForm}
+use Rattle.wire.specs.declared.reader.Outcome.{Outcome}
+use Rattle.wire.specs.declared.reader.Outcome.the-variants.{More, Cut, NoMaster, Unusable, TooLong, BrokenPair, Whole}
+use Rattle.station.specs.Outbox.{waiting}
+use Rattle.station.specs.Replies.{answerFor}
+use Rattle.station.specs.declared.phase.Sound.{Sound}
+use Rattle.station.specs.declared.phase.Sound.the-variants.{Quiet, Symbol}
+use Rattle.station.specs.declared.replies.ReplyBook.{ReplyBook}
+use Rattle.station.specs.declared.station.Station.{Station}
+use Rattle.bus.specs.declared.bus.Bus.{Bus}
+use Rattle.bus.specs.Bus.{poweredOn, attachedTo, turnAt}
+use Rattle.bus.specs.Slot.{slotHeard}
+use Rattle.promises.specs.Calls.{Call, afterCalls, ByteCalls}
+use Rattle.promises.specs.Fit.{stationAt}
+use Rattle.history.specs.Moments.{Moment, isSymbol, History}
+use Rattle.history.specs.Seen.{momentAt, seen}
+use Rattle.history.specs.Share.{Time, once, again, Sender, owner, slave, Reader, station, asker, Share, readsForAll, whichOf}
+use Rattle.history.specs.Share as share
+use Rattle.history.specs.Verdict.{verdict}
+use Rattle.history.specs.Observer.{Report, silence, owns, taken, free, given, answered, failed, failedFree, tellsOut, tellsRefused, tellsRead, tellsHanded, handsOut, toOwner, tellsFirst, tellsIn, disturbed, cutShort, shareOf}
+use Rattle.history.specs.Observer as observer
+use Rattle.history.specs.Failed.{numberIn, Fails}
+use Rattle.history.proofs.AsObserved.{tells-as-observed}
+use Rattle.history.proofs.FailedWhen.{why, then-told, reader-never}
+use Rattle.history.proofs.Matches.{reportOf}
+use Rattle.history.proofs.Shares.{wins, before-won}
+
+-- ---- only who sent its QQ is told owns
+
+abbrev isOwns : Report → Bool
+isOwns silence = false
+isOwns owns = true
+isOwns taken = false
+isOwns free = false
+isOwns given = false
+isOwns answered = false
+isOwns (failed n) = false
+isOwns (failedFree n) = false
+
+record Other (r : Report) : Type 0 where
+  not-owns : isOwns r ≡ false
+
+either : (q : Bool) {r s : Report} → Other r → Other s → Other (cond q r s)
+either true e f = e
+either false e f = f
+
+out-other : (d : Sender) (zs : List ℕ) → Other (tellsOut d zs)
+out-other (owner t) [] = either (eqb (t .zz) 0xFE) (record { not-owns = refl }) (record { not-owns = refl })
+out-other (slave xs) [] = record { not-owns = refl }
+out-other d (z ∷ zs) = record { not-owns = refl }
+
+disturbed-other : (d : Sender) → Other (disturbed d)
+disturbed-other (owner t) = record { not-owns = refl }
+disturbed-other (slave xs) = record { not-owns = refl }
+
+cut-other : (d : Sender) → Other (cutShort d)
+cut-other (owner t) = record { not-owns = refl }
+cut-other (slave xs) = record { not-owns = refl }
+
+refused-other : (n : Time) → Other (tellsRefused n)
+refused-other once = record { not-owns = refl }
+refused-other again = record { not-owns = refl }
+
+owner-other : (r : Reader) {f : Report} → Other f → Other (toOwner r f)
+owner-other (station a m) e = record { not-owns = refl }
+owner-other (asker t) e = e
+
+hands-other : (r : Reader) → Other (handsOut r)
+hands-other (station a m) = record { not-owns = refl }
+hands-other (asker t) = record { not-owns = refl }
+
+read-other : (v : Outcome) (r : Reader) (xs : List ℕ) → Other (tellsRead v r xs)
+read-other More r xs = record { not-owns = refl }
+read-other Cut r xs = owner-other r (record { not-owns = refl })
+read-other NoMaster r xs = owner-other r (record { not-owns = refl })
+read-other Unusable r xs = owner-other r (record { not-owns = refl })
+read-other TooLong r xs = record { not-owns = refl }
+read-other BrokenPair r xs = owner-other r (record { not-owns = refl })
+read-other (Whole matched) r xs =
+    either (readsForAll r xs) (either matched (record { not-owns = refl }) (record { not-owns = refl })) (record { not-owns = refl })
+
+first-other : (fs : List ℕ) (h : Sound) → Other (tellsFirst fs h)
+first-other [] h = record { not-owns = refl }
+first-other (y ∷ ys) h = either (isSymbol y h) (record { not-owns = refl }) (record { not-owns = refl })
+
+tells-other : (u : Share) (book : ReplyBook) (h : Sound) → Other (tellsIn u book h)
+tells-other share.over book h = record { not-owns = refl }
+tells-other share.releases book h = record { not-owns = refl }
+tells-other (share.sends d n y zs) book h = either (isSymbol y h) (out-other d zs) (disturbed-other d)
+tells-other (share.awaits d n) book Quiet = record { not-owns = refl }
+tells-other (share.awaits d n) book (Symbol b) =
+    either (eqb b 0x00) (record { not-owns = refl })
+    (either (eqb b 0xFF) (refused-other n) (either (eqb b 0xAA) (cut-other d) (record { not-owns = refl })))
+tells-other (share.reads r n xs) book Quiet = record { not-owns = refl }
+tells-other (share.reads r n xs) book (Symbol b) = either (eqb b 0xAA) (owner-other r (record { not-owns = refl })) (read-other (verdict (whichOf r) (xs ++ (b ∷ []))) r (xs ++ (b ∷ [])))
+tells-other (share.judges r n xs matched just) book Quiet = record { not-owns = refl }
+tells-other (share.judges r n xs matched just) book (Symbol b) =
+    either (eqb b 0x00) (either matched (hands-other r) (owner-other r (record { not-owns = refl })))
+    (either (eqb b 0xFF) (owner-other r (refused-other n))
+    (either (eqb b 0xAA) (owner-other r (record { not-owns = refl })) (owner-other r (record { not-owns = refl }))))
+tells-other (share.owes pb sb) book h = first-other (answerForm (answerFor book pb sb)) h
+
+-- ---- the sentences
+
+module _ (cs : List Call) (bytes : ByteCalls cs) (i : ℕ) (attached : i < attachedTo (afterCalls poweredOn cs)) where
+  abbrev bus : Bus
+  bus = afterCalls poweredOn cs
+
+  abbrev its : Station
+  its = stationAt bus i
+
+  abbrev g : History
+  g = seen i cs
+
+  -- what it is told in the next slot, if all hear h
+  abbrev told : Sound → Report
+  told h = reportOf (turnAt (slotHeard bus h) i .told)
+
+  -- it sends its QQ in this slot, which is the one after an AA that admits it, with a telegram waiting; and it hears its address
+  abbrev Wins : Sound → Bool
+  Wins h = wins (its .address) (its .master) (g .earlier) (g .now) (momentAt bus i h)
+
+  in-turn : (h : Sound) → told h ≡ cond (Wins h) owns (tellsIn (shareOf (its .address) (its .master) g) (its .replies) h)
+  unfolding observer.tells
+  in-turn h = tells-as-observed cs bytes i attached h
+
+  -- owns, exactly then
+  pub owns-exactly-when : (h : Sound) → (told h ≡ owns) ↔ (Wins h ≡ true)
+  owns-exactly-when h = by (Wins h) refl
+    where
+      by : (q : Bool) → Wins h ≡ q → (told h ≡ owns) ↔ (Wins h ≡ true)
+      by true e = ((λ _. e), (λ _. in-turn h ∙ rw e))
+      by false e =
+          let t : told h ≡ tellsIn (shareOf (its .address) (its .master) g) (its .replies) h = in-turn h ∙ rw e in
+          (
+            (λ j. absurd (true≢false (sym (ap isOwns (sym t ∙ j)) ∙ tells-other (shareOf (its .address) (its .master) g) (its .replies) h .not-owns))),
+            (λ j. absurd (false≢true (sym e ∙ j))),
+          )
+
+  -- failed k, exactly then
+  pub failed-exactly-when : (h : Sound) (k : ℕ) → 1 ≤ k → (numberIn (told h) ≡ k) ↔ Fails (its .replies) k (shareOf (its .address) (its .master) g) h
+  unfolding shareOf
+  failed-exactly-when h k l = by (Wins h) refl
+    where
+      by : (q : Bool) → Wins h ≡ q → (numberIn (told h) ≡ k) ↔ Fails (its .replies) k (shareOf (its .address) (its .master) g) h
+      by true e =
+          let t : told h ≡ owns = in-turn h ∙ rw e in
+          (
+            (λ j. let z : 0 ≡ k = sym (ap numberIn t) ∙ j in absurd (omega arith)),
+            (λ f. absurd (reader-never (its .replies) f (before-won (momentAt bus i h) (its .address) (its .master) (g .earlier) (g .now) e))),
+          )
+      by false e =
+          let t : told h ≡ tellsIn (shareOf (its .address) (its .master) g) (its .replies) h = in-turn h ∙ rw e in
+          (
+            (λ j. why (its .replies) (shareOf (its .address) (its .master) g) h (sym (ap numberIn t) ∙ j) l),
+            (λ f. ap numberIn t ∙ then-told (its .replies) f),
+          )

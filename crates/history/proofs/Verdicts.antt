@@ -1,0 +1,212 @@
+-- The verdict on one symbol more of a part that is read so far is the outcome of the reader's next step. Assumes nothing.
+use mathlib.Core.Path.{_≡_, refl, sym, ap, ap₂, subst, _∙_}
+use mathlib.Core.Logic.{_≢_}
+use mathlib.Core.Bool.{Bool, true, false, cond}
+use mathlib.Core.List.{List, [], _∷_, _++_, append-assoc}
+use Prim.Native.Nat.{ℕ, suc, _+_, _≤_, _<_}
+use native.Mathlib.Omega.{arith}
+use borrow.Author.Tests.{eqb-true, eq-eqb, ne-eqb, lt-ltb, le-ltb, le-leb, lt-leb}
+use lib.Dec.{eqb, ltb, leb}
+use lib.ListN.{length, getD, take, length-append, length-take}
+use lib.Seq.{length-take-le, take-at, getD-at}
+use Rattle.address.specs.Master.{isMaster}
+use Rattle.address.specs.Half.{halfIndex}
+use Rattle.crc.specs.Crc.{crcOf}
+use Rattle.wire.specs.Form.{covered}
+use Rattle.wire.specs.Pair.{expandAs, expandOne, expand, undoAs, undoFirst, undoSecond, undo}
+use Rattle.wire.specs.Reader.{more, ended, readQq, readNn, readByte, dataAs, readData, crcAs, readCrc, readHead, readAt, readPlace, readAs, readOne}
+use Rattle.wire.specs.Reading.{Sixteen, Usable, Message, If-master, before}
+use Rattle.wire.specs.declared.part.Part.{Part}
+use Rattle.wire.specs.declared.part.Part.the-variants.{MasterPart, AnswerPart}
+use Rattle.wire.specs.Symbol.{kindOf, isEscape, isCount}
+use Rattle.wire.specs.declared.pair.Undone.{Undone}
+use Rattle.wire.specs.declared.pair.Undone.the-variants.{Byte, Opens, Broken}
+use Rattle.wire.specs.declared.part.Telegram.{Telegram}
+use Rattle.wire.specs.declared.reader.Cursor.{Cursor}
+use Rattle.wire.specs.declared.reader.Place.{Place}
+use Rattle.wire.specs.declared.reader.Place.the-variants.{Qq, Zz, Pb, Sb, Nn, Data, Crc}
+use Rattle.wire.specs.declared.reader.Outcome.{Outcome}
+use Rattle.wire.specs.declared.reader.Outcome.the-variants.{More, NoMaster, Unusable, TooLong, BrokenPair, Whole}
+use Rattle.wire.specs.declared.reader.Step.{Step}
+use Rattle.wire.specs.declared.symbol.Kind.{Kind}
+use Rattle.wire.specs.declared.symbol.Kind.the-variants.{Syn, Escape, Count, Plain}
+use Rattle.wire.proofs.Pairs.{pending}
+use Rattle.wire.proofs.SoFar.{heard, Counted, SoFar, Upto, at-qq, at-zz, at-pb, at-sb, at-nn, at-data, at-crc}
+use Rattle.wire.proofs.SymbolKind.{by-kind}
+use Rattle.history.specs.Verdict.{Plainly, bytes, waits, broken, behind, unexpanded, afterNn, fromNn, verdict}
+
+-- ---- the expansion undone
+
+abbrev pub allBehind : List ℕ → Plainly → Plainly
+allBehind [] u = u
+allBehind (b ∷ bs) u = behind b (allBehind bs u)
+
+one-undone : (b : ℕ) (ys : List ℕ) → unexpanded (expandOne b ++ ys) ≡ behind b (unexpanded ys)
+unfolding expandOne
+one-undone b ys =
+    by-kind (λ k. unexpanded (expandAs k b ++ ys) ≡ behind b (unexpanded ys)) b (λ e. rw e) (λ e. rw e) (λ l. plain (omega arith)) (λ _ n _. plain n)
+  where
+    plain : b ≢ 0xA9 → unexpanded (b ∷ ys) ≡ behind b (unexpanded ys)
+    plain n = by ys
+      where
+        by : (ys : List ℕ) → unexpanded (b ∷ ys) ≡ behind b (unexpanded ys)
+        by [] = rw (ne-eqb b 0xA9 n)
+        by (y ∷ ys) = rw (ne-eqb b 0xA9 n)
+
+all-undone : (bs ys : List ℕ) → unexpanded (expand bs ++ ys) ≡ allBehind bs (unexpanded ys)
+unfolding expand
+all-undone [] ys = refl
+all-undone (b ∷ bs) ys =
+    ap unexpanded (append-assoc (expandOne b) (expand bs) ys) ∙ one-undone b (expand bs ++ ys) ∙ ap (behind b) (all-undone bs ys)
+
+-- the last symbol, with an A9 before it or not
+abbrev asUndone : Undone → Plainly
+asUndone (Byte v) = bytes (v ∷ [])
+asUndone Opens = waits
+asUndone Broken = broken
+
+last-undone : (o : Bool) (b : ℕ) → b ≢ 0xAA → unexpanded (pending o ++ (b ∷ [])) ≡ asUndone (undo o b)
+unfolding undo undoFirst undoSecond
+last-undone false b n =
+    by-kind (λ k. unexpanded (b ∷ []) ≡ asUndone (undoAs k b)) b (λ e. absurd (n e)) (λ e. rw e) (λ l. rw (ne-eqb b 0xA9 (omega arith))) (λ _ m _. rw (ne-eqb b 0xA9 m))
+last-undone true b n = by (eqb b 0x00) (eqb b 0x01)
+  where
+    by : (x y : Bool) → cond x (bytes (0xA9 ∷ [])) (cond y (bytes (0xAA ∷ [])) broken) ≡ asUndone (cond x (Byte 0xA9) (cond y (Byte 0xAA) Broken))
+    by true y = refl
+    by false true = refl
+    by false false = refl
+
+behind-bytes : (bs cs : List ℕ) → allBehind bs (bytes cs) ≡ bytes (bs ++ cs)
+behind-bytes [] cs = refl
+behind-bytes (b ∷ bs) cs = ap (behind b) (behind-bytes bs cs)
+
+behind-open : (bs : List ℕ) → allBehind bs waits ≡ waits
+behind-open [] = refl
+behind-open (b ∷ bs) = ap (behind b) (behind-open bs)
+
+behind-broken : (bs : List ℕ) → allBehind bs broken ≡ broken
+behind-broken [] = refl
+behind-broken (b ∷ bs) = ap (behind b) (behind-broken bs)
+
+-- ---- from NN on
+
+module _ (head : List ℕ) (nn : ℕ) (small : nn ≤ 16) (bs : List ℕ) (b : ℕ) (clear : b ≢ 0xAA) (o : Bool) where
+  -- behind NN and some data bytes
+  body-at : fromNn head (nn ∷ (expand bs ++ pending o) ++ (b ∷ [])) ≡ afterNn head nn (allBehind bs (asUndone (undo o b)))
+  body-at =
+      rw (le-leb nn 16 small)
+      (ap (afterNn head nn) (ap unexpanded (append-assoc (expand bs) (pending o) (b ∷ [])) ∙ all-undone bs (pending o ++ (b ∷ [])) ∙ ap (allBehind bs) (last-undone o b clear)))
+
+  -- data bytes are missing yet
+  data-verdict : length bs < nn → (c : Cursor) (p : Telegram) (s : ℕ) (u : Undone) → length bs < 16
+      → afterNn head nn (allBehind bs (asUndone u)) ≡ dataAs u c p (length bs) s .outcome
+  unfolding readByte more ended
+  data-verdict l c p s (Byte v) k =
+      rw (behind-bytes bs (v ∷ []), length-append bs (v ∷ []), le-ltb nn (length bs + 1) (omega arith), lt-ltb (length bs) 16 k)
+  data-verdict l c p s Opens k = ap (afterNn head nn) (behind-open bs)
+  data-verdict l c p s Broken k = ap (afterNn head nn) (behind-broken bs)
+
+  -- all are there
+  crc-verdict : length bs ≡ nn → (c : Cursor) (p : Telegram) (u : Undone) → c .register ≡ crcOf (covered head bs)
+      → afterNn head nn (allBehind bs (asUndone u)) ≡ crcAs u c p .outcome
+  unfolding more ended
+  crc-verdict l c p (Byte v) e =
+      let t : take nn (bs ++ (v ∷ [])) ≡ bs = take-at bs (v ∷ []) nn l in
+      let g : getD (bs ++ (v ∷ [])) nn 0 ≡ v = getD-at bs v [] 0 nn l in
+      rw (behind-bytes bs (v ∷ []), length-append bs (v ∷ []), lt-ltb nn (length bs + 1) (omega arith), t, g, e)
+  crc-verdict l c p Opens e = ap (afterNn head nn) (behind-open bs)
+  crc-verdict l c p Broken e = ap (afterNn head nn) (behind-broken bs)
+
+-- ---- by the place that comes next
+
+-- no A9 among the first of these
+esc : (s : ℕ) → Usable s → eqb s 0xA9 ≡ false
+esc s u = ne-eqb s 0xA9 (u .notEscape)
+
+not-master : isMaster 0xA9 ≡ false
+unfolding isMaster halfIndex
+not-master = refl
+
+-- behind QQ, ZZ, PB and SB that may stand there, the verdict is that from NN on
+from-body : (w : Part) (p : Telegram) (ys : List ℕ) → If-master w (Message p) → verdict w (before w p ++ ys) ≡ fromNn (before w p) ys
+unfolding verdict
+from-body AnswerPart p ys fit = refl
+from-body MasterPart p ys fit = rw (fit .qq, esc (p .zz) (fit .zz), esc (p .pb) (fit .pb), esc (p .sb) (fit .sb))
+
+either : (r : Bool) (c d : Cursor) (t u : Telegram) (o : Outcome) → cond r More o ≡ cond r (more c t) (ended d u o) .outcome
+unfolding more ended
+either true c d t u o = refl
+either false c d t u o = refl
+
+moved : (h e q r : List ℕ) (n : ℕ) → ((h ++ (n ∷ e)) ++ q) ++ r ≡ h ++ (n ∷ ((e ++ q) ++ r))
+moved h e q r n = ap (λ (l : List ℕ). l ++ r) (append-assoc h (n ∷ e) q) ∙ append-assoc h (n ∷ (e ++ q)) r
+
+module _ (at reg nn : ℕ) (p : Telegram) (xs : List ℕ) (b : ℕ) (array : Sixteen (p .load)) (clear : b ≢ 0xAA) where
+  abbrev cursor : Place → Bool → Cursor
+  cursor l o = record { at = at; place = l; opened = o; register = reg; nn = nn }
+
+  abbrev first : ℕ → List ℕ
+  first read = take read (p .load .bytes)
+
+  -- data and CRC
+  from-nn : (w : Part) (o : Bool) (read : ℕ) → Counted w nn p → xs ≡ heard w p read ++ pending o
+      → verdict w (xs ++ (b ∷ [])) ≡ afterNn (before w p) nn (allBehind (first read) (asUndone (undo o b)))
+  from-nn w o read k e =
+      let shape : xs ++ (b ∷ []) ≡ before w p ++ (p .load .nn ∷ ((expand (first read) ++ pending o) ++ (b ∷ []))) =
+      ap (λ (l : List ℕ). l ++ (b ∷ [])) e ∙ moved (before w p) (expand (first read)) (pending o) (b ∷ []) (p .load .nn) in
+      ap (verdict w) shape ∙ from-body w p (p .load .nn ∷ ((expand (first read) ++ pending o) ++ (b ∷ []))) (k .fit)
+      ∙ ap (λ (n : ℕ). fromNn (before w p) (n ∷ ((expand (first read) ++ pending o) ++ (b ∷ [])))) (sym (k .same))
+      ∙ body-at (before w p) nn (k .most) (first read) b clear o
+
+  data-at : (w : Part) (o : Bool) (read : ℕ) → Counted w nn p → read < nn → xs ≡ heard w p read ++ pending o
+      → verdict w (xs ++ (b ∷ [])) ≡ readData (cursor (Data read) o) p read b .outcome
+  unfolding readData
+  data-at w o read k l e =
+      let n : length (first read) ≡ read = length-take-le read (p .load .bytes) (omega (arith, array, k .most)) in
+      from-nn w o read k e
+      ∙ data-verdict (before w p) nn (k .most) (first read) b clear o (omega (arith, n)) (cursor (Data read) o) p b (undo o b) (omega (arith, n, k .most))
+      ∙ ap (λ (i : ℕ). dataAs (undo o b) (cursor (Data read) o) p i b .outcome) n
+
+  crc-at : (w : Part) (o : Bool) → Counted w nn p → xs ≡ heard w p nn ++ pending o → reg ≡ crcOf (heard w p nn)
+      → verdict w (xs ++ (b ∷ [])) ≡ readCrc (cursor Crc o) p b .outcome
+  unfolding readCrc covered
+  crc-at w o k e r =
+      let n : length (first nn) ≡ nn = length-take-le nn (p .load .bytes) (omega (arith, array, k .most)) in
+      let c : reg ≡ crcOf (before w p ++ (length (first nn) ∷ expand (first nn))) =
+      r ∙ ap (λ (i : ℕ). crcOf (before w p ++ (i ∷ expand (first nn)))) (sym (k .same) ∙ sym n) in
+      from-nn w o nn k e ∙ crc-verdict (before w p) nn (k .most) (first nn) b clear o n (cursor Crc o) p (undo o b) c
+
+  -- the place of NN
+  nn-at : (w : Part) → If-master w (Message p) → xs ≡ before w p → verdict w (xs ++ (b ∷ [])) ≡ cond (leb b 16) More TooLong
+  nn-at w fit e =
+      ap (λ (l : List ℕ). verdict w (l ++ (b ∷ []))) e ∙ from-body w p (b ∷ []) fit ∙ rw (le-ltb b 0 (omega arith))
+
+  escape-at : {w : Part} {l : Place} {o : Bool} → b ≡ 0xA9 → Upto reg nn p xs w l o → verdict w (xs ++ (b ∷ [])) ≡ readAt l (cursor l o) p b Escape .outcome
+  unfolding verdict ended readQq readHead readNn
+  escape-at i (at-qq e _) = rw (e, i, not-master)
+  escape-at i (at-zz m e _) = rw (e, i, m)
+  escape-at i (at-pb m z e _) = rw (e, i, m, esc (p .zz) z)
+  escape-at i (at-sb m z q e _) = rw (e, i, m, esc (p .zz) z, esc (p .pb) q)
+  escape-at i (at-nn {w = w} fit e _) = nn-at w fit e ∙ rw i
+  escape-at i (at-data {w = w} {read = read} {opened = o} k l e _) = data-at w o read k l e
+  escape-at i (at-crc {w = w} {opened = o} k e r) = crc-at w o k e r
+
+  other-at : {w : Part} {l : Place} {o : Bool} → b ≢ 0xA9 → (k : Kind) → isEscape k ≡ false → leb b 16 ≡ isCount k → Upto reg nn p xs w l o
+      → verdict w (xs ++ (b ∷ [])) ≡ readAt l (cursor l o) p b k .outcome
+  unfolding verdict ended more readQq readHead readNn
+  other-at n k f c (at-qq e _) = rw e (either (isMaster b) _ _ _ _ NoMaster)
+  other-at n k f c (at-zz m e _) = rw (e, m, ne-eqb b 0xA9 n, f)
+  other-at n k f c (at-pb m z e _) = rw (e, m, esc (p .zz) z, ne-eqb b 0xA9 n, f)
+  other-at n k f c (at-sb m z q e _) = rw (e, m, esc (p .zz) z, esc (p .pb) q, ne-eqb b 0xA9 n, f)
+  other-at n k f c (at-nn {w = w} fit e _) = nn-at w fit e ∙ rw c (either (isCount k) _ _ _ _ TooLong)
+  other-at n k f c (at-data {w = w} {read = read} {opened = o} q l e _) = data-at w o read q l e
+  other-at n k f c (at-crc {w = w} {opened = o} q e r) = crc-at w o q e r
+
+pub verdict-next : {w : Part} {c : Cursor} {p : Telegram} {xs : List ℕ} (b : ℕ) → SoFar w c p xs → b ≢ 0xAA
+    → verdict w (xs ++ (b ∷ [])) ≡ readOne c p b .outcome
+unfolding readOne readPlace
+verdict-next {w} {c} {p} {xs} b h n =
+    by-kind (λ k. verdict w (xs ++ (b ∷ [])) ≡ readAs k c p b .outcome) b (λ e. absurd (n e))
+    (λ e. escape-at (c .at) (c .register) (c .nn) p xs b (h .array) n e (h .upto))
+    (λ l. other-at (c .at) (c .register) (c .nn) p xs b (h .array) n (omega arith) Count refl (le-leb b 16 l) (h .upto))
+    (λ _ i l. other-at (c .at) (c .register) (c .nn) p xs b (h .array) n i Plain refl (lt-leb b 16 l) (h .upto))

@@ -1,0 +1,9 @@
+pub mod Moments
+pub mod Verdict
+pub mod Share
+pub mod Admission
+pub mod Observer
+pub mod Lines
+pub mod Failed
+pub mod Generator
+pub mod Seen
