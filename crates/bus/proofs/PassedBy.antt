@@ -1,13 +1,11 @@
 -- The stations that a slot passes by: the slot would have left them as they are, or they say nothing. Who owes no answer is
 -- ready as it is. Assumes nothing.
 use mathlib.Core.Path.{_≡_, refl, sym, ap, _∙_}
-use mathlib.Core.Bool.{Bool, true, false, cond, true≢false, false≢true}
+use mathlib.Core.Bool.{true, false, true≢false, false≢true}
 use Prim.Native.Nat.{ℕ}
-use lib.Dec.{eqb, leb}
-use Rattle.wire.specs.Symbol.{kindOf}
-use Rattle.wire.specs.declared.symbol.Kind.the-variants.{Escape, Count, Plain}
+use lib.Dec.{eqb}
 use Rattle.station.specs.Admission.{sinceNext, overNow, noted, bids, sayBid}
-use Rattle.station.specs.Hear.{hearQuiet, hearSymbol, hearsAs, hears}
+use Rattle.station.specs.Hear.{hearQuiet, hearSymbol, hears}
 use Rattle.station.specs.Table.{heardNothing, heardOther, row}
 use Rattle.station.specs.Station.{syn, ready, acknowledgement, says}
 use Rattle.station.specs.Turn.{goes, withAccess}
@@ -108,14 +106,9 @@ quiet-so Owing t e w a h = absurd (false≢true h)
 quiet-so Releasing t e w a h = absurd (false≢true h)
 
 -- a symbol that is not AA
-no-syn : (s : Station) (x : ℕ) → eqb x syn ≡ false → hearsAs (kindOf x) s x ≡ hearSymbol s x
-unfolding kindOf
-no-syn s x e = rw e (go (eqb x 0xA9) (leb x 16))
-  where
-    go : (b c : Bool) → hearsAs (cond b Escape (cond c Count Plain)) s x ≡ hearSymbol s x
-    go true c = refl
-    go false true = refl
-    go false false = refl
+no-syn : (s : Station) (x : ℕ) → eqb x syn ≡ false → hears s (Symbol x) ≡ hearSymbol s x
+unfolding hears
+no-syn s x e = rw e
 
 since-other : (n : Since) → countedOut n ≡ true → n ≡ ManyOrNoSyn
 since-other Nothing h = absurd (false≢true h)

@@ -1,14 +1,13 @@
 -- A turn of `run`'s loop, whole tens at once or one slot, is as many slots, one after the other. Assumes nothing.
-use mathlib.Core.Path.{_≡_, refl, sym, ap, _∙_}
+use mathlib.Core.Path.{_≡_, sym, ap, _∙_}
 use mathlib.Core.Bool.{Bool, true, false, cond}
-use Prim.Native.Nat.{ℕ, zero, suc, _+_, _-_, _%_, _^_, _≤_, _<_}
+use Prim.Native.Nat.{ℕ, suc, _+_, _-_, _%_, _^_, _≤_, _<_}
 use native.Mathlib.Omega.{arith}
 use borrow.Author.Tests.{ltb-true}
 use lib.Dec.{ltb}
 use Rattle.station.specs.declared.phase.Sound.{Sound}
 use Rattle.bus.specs.declared.bus.Bus.{Bus}
 use Rattle.bus.specs.declared.find.Query.the-variants.{WasTold, Restless}
-use Rattle.bus.specs.declared.run.Stop.{Stop}
 use Rattle.bus.specs.Bus.{attachedTo}
 use Rattle.bus.specs.Find.{thereIs}
 use Rattle.bus.specs.Run.{runs}

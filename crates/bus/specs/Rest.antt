@@ -2,7 +2,6 @@
 -- A station at rest: an AA was heard, only quiet since, no telegram held, no mark; it reads from the start and is told nothing.
 -- Assumes nothing.
 use mathlib.Core.Bool.{Bool, true, false, cond}
-use Prim.Native.Nat.{ℕ}
 use lib.Dec.{eqb}
 use Rattle.wire.specs.declared.reader.Cursor.{Cursor}
 use Rattle.wire.specs.declared.reader.Place.{Place}

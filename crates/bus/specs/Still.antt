@@ -2,7 +2,6 @@
 -- A station that the slot leaves as it is, and one that says nothing, are passed by; who owes no answer is ready as it is.
 -- Assumes nothing.
 use mathlib.Core.Bool.{Bool, true, false, cond}
-use Prim.Native.Nat.{ℕ}
 use lib.Dec.{eqb}
 use Rattle.station.specs.Station.{syn}
 use Rattle.station.specs.declared.phase.Phase.{Phase}

@@ -1,15 +1,12 @@
 -- A heard AA: every station reads from the start, and what it is told in 01's words (01, "Admission", "Reading", "Release").
 -- Assumes nothing.
-use mathlib.Core.Path.{_≡_, refl, ap}
+use mathlib.Core.Path.{_≡_, refl}
 use mathlib.Core.Bool.{Bool, true, false, cond}
 use mathlib.Core.List.{List, [], _∷_}
 use Prim.Native.Nat.{ℕ}
 use Rattle.wire.specs.Reader.{masterStart}
-use Rattle.wire.specs.Symbol.{kindOf}
 use Rattle.wire.specs.declared.part.Telegram.{Telegram}
 use Rattle.wire.specs.declared.reader.Cursor.{Cursor}
-use Rattle.wire.specs.declared.symbol.Kind.{Kind}
-use Rattle.wire.specs.declared.symbol.Kind.the-variants.{Syn}
 use Rattle.wire.specs.declared.part.Part.the-variants.{MasterPart, AnswerPart}
 use Rattle.station.specs.declared.phase.Attempt.{Attempt}
 use Rattle.station.specs.declared.phase.Attempt.the-variants.{First}
@@ -17,7 +14,6 @@ use Rattle.station.specs.declared.phase.Phase.{Phase}
 use Rattle.station.specs.declared.phase.Phase.the-variants.{Silent, Reading, Sending, Awaiting, Judging, Owing, Releasing}
 use Rattle.station.specs.declared.phase.Since.the-variants.{Nothing}
 use Rattle.station.specs.declared.phase.Sound.{Sound}
-use Rattle.station.specs.declared.phase.Sound.the-variants.{Symbol}
 use Rattle.station.specs.declared.phase.Failure.the-variants.{Disturbed, SynHeard}
 use Rattle.station.specs.declared.phase.Told.{Told}
 use Rattle.station.specs.declared.phase.Told.the-variants.{Silence, Failed, Free, FailedFree}
@@ -29,8 +25,8 @@ use Rattle.station.specs.Phase.{owner}
 use Rattle.station.specs.Table.{left, released, heardAA, row}
 use Rattle.station.specs.Turn.{goes}
 use Rattle.station.specs.Admission.{admits, restarted, bids}
-use Rattle.station.specs.Hear.{cut, hearSyn, hearsAs, hears}
-use Rattle.station.proofs.Aa.{IsSyn, aa}
+use Rattle.station.specs.Hear.{cut, hearSyn, hears}
+use Rattle.station.proofs.Aa.{IsSyn, aa, heard-aa}
 
 -- what AA makes of a station
 pub record AfterSyn (s : Station) (after : Station) : Type 0 where
@@ -67,10 +63,6 @@ pub data SynTells (own : ℕ) (part : Telegram) : Phase → Told → List Event 
   reading-station : {c : Cursor} {a : Attempt} → SynTells own part (Reading c MasterPart a) Silence []
   judging-station : {a : Attempt} {m k : Bool} → SynTells own part (Judging MasterPart a m k) Silence []
   owing-slave : SynTells own part Owing Silence []
-
-turn : (s : Station) (b : ℕ) → kindOf b ≡ Syn → hears s (Symbol b) ≡ hearSyn s
-unfolding hears
-turn s b e = ap (λ (k : Kind). hearsAs k s b) e
 
 -- what AA tells: sending a part, failed 1; awaiting its acknowledgement, or awaiting, reading or judging an answer, failed 4
 abbrev pub toldBySyn : Phase → Told
@@ -147,11 +139,11 @@ after-of s =
 
 -- after an AA every station reads from the start; it owns nothing, marks go out, and `admits` says who may bid
 pub after-syn : (s : Station) {h : Sound} → IsSyn h → AfterSyn s (hears s h .station)
-after-syn s (aa {b} e) = rw (turn s b e) (after-of s)
+after-syn s (aa {b} e) = rw (heard-aa s b e) (after-of s)
 
 -- what it is told is a function of its phase
 pub syn-told : (s : Station) {h : Sound} → IsSyn h → hears s h .told ≡ toldBySyn (s .phase)
-syn-told s (aa {b} e) = rw (turn s b e) (told-of s)
+syn-told s (aa {b} e) = rw (heard-aa s b e) (told-of s)
 
 rows : (own : ℕ) (part : Telegram) (p : Phase) → SynTells own part p (toldBySyn p) (eventsAs (toldBySyn p) own part)
 rows own part Silent = silent-station

@@ -5,15 +5,12 @@ use Prim.Native.Nat.{ℕ, _+_}
 use borrow.Author.Tests.{eqb-true, eqb-false}
 use lib.Dec.{eqb, ltb}
 use Rattle.wire.specs.Reader.{readOne}
-use Rattle.wire.specs.Symbol.{kindOf}
 use Rattle.wire.specs.declared.part.Telegram.{Telegram}
 use Rattle.wire.specs.declared.reader.Cursor.{Cursor}
 use Rattle.wire.specs.declared.reader.Outcome.{Outcome}
 use Rattle.wire.specs.declared.reader.Outcome.the-variants.{More, Cut, NoMaster, Unusable, TooLong, BrokenPair, Whole}
 use Rattle.wire.specs.declared.reader.Place.{Place}
 use Rattle.wire.specs.declared.reader.Place.the-variants.{Qq, Zz, Pb, Sb, Nn, Data, Crc}
-use Rattle.wire.specs.declared.symbol.Kind.{Kind}
-use Rattle.wire.specs.declared.symbol.Kind.the-variants.{Syn, Escape, Count, Plain}
 use Rattle.station.specs.declared.outbox.Outbox.{Outbox}
 use Rattle.wire.specs.declared.part.Part.{Part}
 use Rattle.wire.specs.declared.part.Part.the-variants.{MasterPart, AnswerPart}
@@ -35,8 +32,8 @@ use Rattle.station.specs.Station.{ack, nak, due}
 use Rattle.station.specs.Turn.{goes, withPart}
 use Rattle.station.specs.Addressed.{forAll, answered, isOwn}
 use Rattle.station.specs.Table.{readerFails, whole, addressed, readOn, readOnAt, readsAs, reads, handedOut, judgedTaken, readAgain, judges, left, released, senderFails, hearBid, sentWhole, sent, hearOwnAs, hearOwn, taken, nakHeard, hearReply, hearReading, heardNothing, heardOther, row, ownerFails}
-use Rattle.station.specs.Hear.{hearsAs, hearQuiet, hearSymbol, hears}
-use Rattle.station.proofs.Aa.{NoSyn, quiet, symbol}
+use Rattle.station.specs.Hear.{hearQuiet, hearSymbol, hears}
+use Rattle.station.proofs.Aa.{NoSyn, quiet, symbol, heard-other}
 use Rattle.station.proofs.Moves.{Moves, silent-on, owing-on, reading-waits, awaiting-waits, acknowledges, leaves-released, leaves-disturbed, stops-disturbed, wins, reads-on, not-for-it, reads-in-vain, breaks-answer, gives-broadcast, reads-whole, reads-too-long, sends-on, takes-broadcast, sends-whole, awaits-answer, ends-taken, answer-taken, sends-again, ends-failed, answer-failed, gives-and-owes, gives, gives-answer, reads-again, gives-nothing, answer-lost}
 
 -- an owner that leaves drops its telegram, and nothing else changes the outbox
@@ -300,18 +297,11 @@ symbol-slot s b (Judging p a m k) = noted-slot s (Judging p a m k) b (judges-tur
 symbol-slot s b Owing = noted-slot s Owing b (going owing-on refl)
 symbol-slot s b Releasing = noted-slot s Releasing b (released-turned (noted s) (Symbol b))
 
-kind-slot : (s : Station) (b : ℕ) (k : Kind) → kindOf b ≡ k → (kindOf b ≡ Syn → ⊥) → Slot s (s .phase) (Symbol b) (hearsAs k s b)
-unfolding hearSymbol
-kind-slot s b Syn e n = absurd (n e)
-kind-slot s b Escape e n = symbol-slot s b (s .phase)
-kind-slot s b Count e n = symbol-slot s b (s .phase)
-kind-slot s b Plain e n = symbol-slot s b (s .phase)
-
 -- what a slot without AA makes of a station
 pub slot : (s : Station) {h : Sound} → NoSyn h → Slot s (s .phase) h (hears s h)
-unfolding hears hearQuiet
+unfolding hears hearQuiet hearSymbol
 slot s quiet = record { entering = overNow s; enters = on-quiet; turned = quiet-turned s (s .phase) }
-slot s (symbol {b} n) = kind-slot s b (kindOf b) refl n
+slot s (symbol {b} n) = rw (heard-other s b n) (symbol-slot s b (s .phase))
 
 -- its row
 pub moves-of : (s : Station) {h : Sound} → NoSyn h → Moves (bids s) (s .address) (s .part) (s .phase) h (hears s h .told) (hears s h .station .phase)

@@ -1,13 +1,13 @@
 -- A slot as a station hears it: quiet, AA, or another symbol; then the table (01, "Admission" to "Release"). Assumes nothing.
+use mathlib.Core.Bool.{cond}
 use Prim.Native.Nat.{ℕ}
-use Rattle.wire.specs.Symbol.{kindOf}
-use Rattle.wire.specs.declared.symbol.Kind.{Kind}
-use Rattle.wire.specs.declared.symbol.Kind.the-variants.{Syn, Escape, Count, Plain}
+use lib.Dec.{eqb}
 use Rattle.station.specs.declared.phase.Sound.{Sound}
 use Rattle.station.specs.declared.phase.Sound.the-variants.{Quiet, Symbol}
 use Rattle.station.specs.declared.station.Station.{Station}
 use Rattle.station.specs.declared.station.Turn.{Turn}
 use Rattle.station.specs.Admission.{restarted, bids, noted, overNow}
+use Rattle.station.specs.Station.{syn}
 use Rattle.station.specs.Table.{heardNothing, heardAA, heardOther, row}
 
 unfoldable pub hearQuiet : Station → Turn
@@ -24,12 +24,6 @@ hearSyn s = record { station = restarted (cut s .station); told = cut s .told }
 unfoldable pub hearSymbol : Station → ℕ → Turn
 hearSymbol s symbol = row (s .phase) (heardOther symbol) (bids s) (noted s)
 
-abbrev pub hearsAs : Kind → Station → ℕ → Turn
-hearsAs Syn s symbol = hearSyn s
-hearsAs Escape s symbol = hearSymbol s symbol
-hearsAs Count s symbol = hearSymbol s symbol
-hearsAs Plain s symbol = hearSymbol s symbol
-
 unfoldable pub hears : Station → Sound → Turn
 hears s Quiet = hearQuiet s
-hears s (Symbol symbol) = hearsAs (kindOf symbol) s symbol
+hears s (Symbol symbol) = cond (eqb symbol syn) (hearSyn s) (hearSymbol s symbol)

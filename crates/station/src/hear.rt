@@ -13,7 +13,6 @@ use crate::station::Station;
 use crate::station::Turn;
 use wire::part::Part;
 use wire::reader::Cursor;
-use wire::symbol::Kind;
 
 impl Station {
     pub fn hear(self, heard: Sound) -> Turn
@@ -22,12 +21,10 @@ impl Station {
         let Sound::Symbol(s) = heard else {
             return self.hear_quiet();
         };
-        match wire::symbol::kind_of(s) {
-            Kind::Syn => self.hear_syn(),
-            Kind::Escape => self.hear_symbol(s),
-            Kind::Count => self.hear_symbol(s),
-            Kind::Plain => self.hear_symbol(s),
+        if s == Station::SYN {
+            return self.hear_syn();
         }
+        self.hear_symbol(s)
     }
 
     // The station in another phase, and what it is told.

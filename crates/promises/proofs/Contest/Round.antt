@@ -18,7 +18,7 @@ use Rattle.wire.specs.declared.symbol.Kind.{Kind}
 use Rattle.wire.specs.declared.symbol.Kind.the-variants.{Count, Plain}
 use Rattle.wire.proofs.SymbolKind.{by-kind}
 use Rattle.station.specs.Admission.{admits, admitsAfter, overNow, noted, owned, withdrawn, bids, sayBid}
-use Rattle.station.specs.Hear.{hearQuiet, hearSymbol, hearsAs, hears}
+use Rattle.station.specs.Hear.{hearQuiet, hearSymbol, hears}
 use Rattle.station.specs.Table.{row, hearReading, readOn, readsStep, reads, hearBid, heardNothing, heardOther}
 use Rattle.station.specs.Outbox.{heldIn}
 use Rattle.station.specs.Phase.{owner}
@@ -85,7 +85,7 @@ read-kind P w m count plain =
 
 heard-master : (s : Station) (w : ℕ) → isMaster w ≡ true → hears s (Symbol w) ≡ hearSymbol s w
 unfolding hears
-heard-master s w m = read-kind (λ k. hearsAs k s w ≡ hearSymbol s w) w m refl refl
+heard-master s w m = rw (ne-eqb w syn (master-no-other-use w m .1))
 
 -- as QQ it is read, and the reading goes on
 abbrev readOne-qq : Station → ℕ → Turn

@@ -5,25 +5,19 @@ use Prim.Native.Nat.{ℕ, _<_}
 use borrow.Author.Tests.{ltb-true}
 use lib.Dec.{ltb}
 use Rattle.wire.specs.Symbol.{kindOf}
-use Rattle.wire.specs.declared.symbol.Kind.{Kind}
-use Rattle.wire.specs.declared.symbol.Kind.the-variants.{Syn, Escape, Count, Plain}
+use Rattle.wire.specs.declared.symbol.Kind.the-variants.{Syn}
 use Rattle.station.specs.Outbox.{heldIn}
 use Rattle.station.specs.Admission.{bids, overNow, noted}
-use Rattle.station.specs.Hear.{hearsAs, hearQuiet, hearSymbol, hears}
+use Rattle.station.specs.Hear.{hearQuiet, hearSymbol, hears}
+use Rattle.station.proofs.Aa.{heard-other}
 use Rattle.station.specs.Table.{row, heardNothing, heardOther}
 use Rattle.station.specs.declared.phase.Phase.{Phase}
 use Rattle.station.specs.declared.phase.Sound.the-variants.{Quiet, Symbol}
 use Rattle.station.specs.declared.station.Station.{Station}
 
 pub hears-symbol : (s : Station) (b : ℕ) → (kindOf b ≡ Syn → ⊥) → hears s (Symbol b) ≡ row (s .phase) (heardOther b) (bids s) (noted s)
-unfolding hears hearSymbol
-hears-symbol s b n = go (kindOf b) refl
-  where
-    go : (k : Kind) → kindOf b ≡ k → hearsAs k s b ≡ row (s .phase) (heardOther b) (bids s) (noted s)
-    go Syn e = absurd (n e)
-    go Escape e = refl
-    go Count e = refl
-    go Plain e = refl
+unfolding hearSymbol
+hears-symbol s b n = heard-other s b n
 
 pub symbol-at : (s : Station) (b : ℕ) → (kindOf b ≡ Syn → ⊥) → (p : Phase) → s .phase ≡ p → hears s (Symbol b) ≡ row p (heardOther b) (bids s) (noted s)
 symbol-at s b k p e = hears-symbol s b k ∙ ap (λ (q : Phase). row q (heardOther b) (bids s) (noted s)) e

@@ -5,15 +5,12 @@ use mathlib.Core.Bool.{Bool, true, false, cond}
 use Prim.Native.Nat.{ℕ, _+_}
 use lib.Dec.{eqb, ltb}
 use Rattle.wire.specs.Reader.{readOne}
-use Rattle.wire.specs.Symbol.{kindOf}
 use Rattle.wire.specs.declared.part.Telegram.{Telegram}
 use Rattle.wire.specs.declared.reader.Cursor.{Cursor}
 use Rattle.wire.specs.declared.reader.Outcome.{Outcome}
 use Rattle.wire.specs.declared.reader.Outcome.the-variants.{More, Cut, NoMaster, Unusable, TooLong, BrokenPair, Whole}
 use Rattle.wire.specs.declared.reader.Place.{Place}
 use Rattle.wire.specs.declared.reader.Place.the-variants.{Qq, Zz, Pb, Sb, Nn, Data, Crc}
-use Rattle.wire.specs.declared.symbol.Kind.{Kind}
-use Rattle.wire.specs.declared.symbol.Kind.the-variants.{Syn, Escape, Count, Plain}
 use Rattle.wire.specs.declared.part.Part.{Part}
 use Rattle.wire.specs.declared.part.Part.the-variants.{MasterPart, AnswerPart}
 use Rattle.station.specs.declared.phase.Attempt.{Attempt}
@@ -34,8 +31,8 @@ use Rattle.station.specs.Station.{ack, nak, due}
 use Rattle.station.specs.Turn.{goes, withPart}
 use Rattle.station.specs.Addressed.{forAll, answered, isOwn}
 use Rattle.station.specs.Table.{readerFails, whole, addressed, readOn, readOnAt, readsAs, reads, handedOut, judgedTaken, readAgain, judges, left, released, senderFails, hearBid, sentWhole, sent, hearOwnAs, hearOwn, taken, nakHeard, hearReply, row, hearReading, heardNothing, heardOther, ownerFails}
-use Rattle.station.specs.Hear.{hearsAs, hearQuiet, hearSymbol, hears}
-use Rattle.station.proofs.Aa.{NoSyn, quiet, symbol}
+use Rattle.station.specs.Hear.{hearQuiet, hearSymbol, hears}
+use Rattle.station.proofs.Aa.{NoSyn, quiet, symbol, heard-other}
 
 -- a master part that is judged is for one station
 abbrev pub ForOne : Part → Telegram → Type 0
@@ -253,15 +250,8 @@ module _ (s : Station) where
   symbol-part b Owing = with-kept Owing (Symbol b) (going (noted s) _ _) owing-kept
   symbol-part b Releasing = with-kept Releasing (Symbol b) (released-keeps (noted s)) releasing-kept
 
-  kind-part : (b : ℕ) (k : Kind) → kindOf b ≡ k → (kindOf b ≡ Syn → ⊥) → AfterTurn s (s .phase) (Symbol b) (hearsAs k s b)
-  unfolding hearSymbol
-  kind-part b Syn e n = absurd (n e)
-  kind-part b Escape e n = symbol-part b (s .phase)
-  kind-part b Count e n = symbol-part b (s .phase)
-  kind-part b Plain e n = symbol-part b (s .phase)
-
   -- the part after a slot without AA
   pub part-after : {h : Sound} → NoSyn h → AfterTurn s (s .phase) h (hears s h)
-  unfolding hears hearQuiet
+  unfolding hears hearQuiet hearSymbol
   part-after quiet = quiet-part (s .phase)
-  part-after (symbol {b} n) = kind-part b (kindOf b) refl n
+  part-after (symbol {b} n) = rw (heard-other s b n) (symbol-part b (s .phase))

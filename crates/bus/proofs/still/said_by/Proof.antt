@@ -1,5 +1,5 @@
 -- `bus::still::said_by` meets its contract. Assumes nothing.
-use mathlib.Core.Path.{_≡_, sym, _∙_}
+use mathlib.Core.Path.{sym, _∙_}
 use borrow.Author.Needs.{needs}
 use Rattle.bus.proofs.PassedBy.{ready-so}
 use Rattle.bus.proofs.still.said_by.Statement.{statement}
