@@ -80,7 +80,8 @@ impl Bus {
                 continue;
             }
             let u = self.turns[i];
-            self.turns[i] = still::turned(u, heard);
+            let v = still::turned(u, heard);
+            self.turns[i] = v;
         }
         self.slot = std::num::wrapping_add_u32(self.slot, 1);
         self.ran = true;

@@ -69,11 +69,11 @@ element-copy-out-u c = search needs
 turned-requires : tie.Need-turned-requires Inv-loop μ-loop
 turned-requires c κs = search needs
 
-mul-t12 : tie.Need-mul-t12 Inv-loop μ-loop
-mul-t12 c = search needs
+mul-v : tie.Need-mul-v Inv-loop μ-loop
+mul-v c = search needs
 
-element-set-from-self : tie.Need-element-set-from-self Inv-loop μ-loop
-element-set-from-self c = search needs
+element-set-from-v : tie.Need-element-set-from-v Inv-loop μ-loop
+element-set-from-v c = search needs
 
 add-i-2 : tie.Need-add-i-2 Inv-loop μ-loop
 add-i-2 c = omega arith
@@ -130,8 +130,8 @@ slot-heard-spec =
     mul-u
     element-copy-out-u
     turned-requires
-    mul-t12
-    element-set-from-self
+    mul-v
+    element-set-from-v
     add-i-2
     loop-less-2
     loop-again-2
