@@ -14,9 +14,9 @@ use Rattle.bus.specs.Reply as busReply
 use Rattle.bus.specs.Slot as busSlot
 use Rattle.crc.specs.Crc as crcCrc
 use Rattle.laws.specs.First as lawsFirst
-use Rattle.scenario.specs.Apply as scenarioApply
-use Rattle.scenario.specs.Field as scenarioField
-use Rattle.scenario.specs.Form as scenarioForm
+use Rattle.walk.specs.Apply as walkApply
+use Rattle.walk.specs.Field as walkField
+use Rattle.walk.specs.Form as walkForm
 use Rattle.scenario.specs.Lines as scenarioLines
 use Rattle.scenario.specs.Output as scenarioOutput
 use Rattle.scenario.specs.Pen as scenarioPen
@@ -64,5 +64,5 @@ sampleOutput =
 
 -- every definition on the way from the input to the lines is unfolded, and the two sides are the same bytes
 pub sample : scenarioOutput.output sampleInput ≡ sampleOutput
-unfolding addressHalf.halfIndex addressHalf.classOf addressHalf.subOf addressKind.kindOf addressMaster.isMaster addressMaster.slaveOf addressMaster.rankOf addressMaster.masterAt busAttach.noSuchAddress busAttach.occupied busAttach.newcomer busAttach.takesSeat busAttach.attaches busBus.poweredOn busBus.attachedTo busBus.turnAt busBus.withTurn busBus.refusedBy busBus.done busEvents.events busFind.slaveAddress busFind.isMasterAt busFind.firstOf busFind.thereIs busQueue.unusable busQueue.noTarget busQueue.noCommand busQueue.holds busQueue.queuesTelegram busQueue.queuesFrom busQueue.queues busReply.writes busReply.repliesFrom busReply.replies busSlot.generatorSays busSlot.spoken busSlot.slotHeard busSlot.slotRun crcCrc.timesX crcCrc.timesXⁿ crcCrc.crcStep crcCrc.crcFrom crcCrc.crcOf lawsFirst.firstFrom scenarioApply.bytesFrom scenarioApply.applied scenarioField.byteAt scenarioField.pairAt scenarioField.valueOf scenarioField.fieldAt scenarioForm.formFrom scenarioForm.formOf scenarioLines.hexesText scenarioLines.beginText scenarioLines.lineText scenarioLines.textOf scenarioLines.slotText scenarioLines.endText scenarioOutput.ran scenarioOutput.printedFrom scenarioOutput.output scenarioPen.hexDigit scenarioPen.hexText scenarioPen.placesOf scenarioPen.digitAt scenarioPen.digitsFrom scenarioPen.decimalText stationEvents.tells stationHear.admits stationHear.restarted stationHear.hearSyn stationHear.hearQuiet stationHear.noted stationHear.hearReading stationHear.hearSymbol stationHear.hears stationJudge.handedOut stationJudge.judgedTaken stationJudge.readAgain stationJudge.judges stationOutbox.noneHeld stationOutbox.heldIn stationOutbox.waiting stationOutbox.accepted stationOutbox.oldestOf stationOutbox.dropped stationRead.forAll stationRead.answered stationRead.isOwn stationRead.unread stationRead.whole stationRead.addressed stationRead.readOn stationRead.reads stationReplies.noEntries stationReplies.isFor stationReplies.countIn stationReplies.entryOf stationReplies.entryAt stationReplies.withEntry stationReplies.added stationReplies.written stationReplies.answerFor stationSend.left stationSend.released stationSend.disturbed stationSend.failed stationSend.owned stationSend.withdrawn stationSend.hearBid stationSend.sentWhole stationSend.sent stationSend.hearOwn stationSend.taken stationSend.refused stationSend.hearReply stationStation.fresh stationStation.answering stationStation.ready stationStation.bids stationStation.sayBid stationStation.due stationStation.acknowledgement stationStation.says wireForm.covered wireForm.form wireForm.countOf wireForm.telegramForm wireForm.answerForm wireForm.holding wireForm.appended wireLoad.fitting wireLoad.loadOf wirePair.expandOne wirePair.expand wirePair.undoFirst wirePair.undoSecond wirePair.undo wireReader.masterStart wireReader.answerStart wireReader.ended wireReader.more wireReader.onward wireReader.placeAfter wireReader.readQq wireReader.readNn wireReader.readByte wireReader.readData wireReader.readCrc wireReader.readEscape wireReader.readOther wireReader.readOne wireSymbol.kindOf stationTurn.goes
+unfolding addressHalf.halfIndex addressHalf.classOf addressHalf.subOf addressKind.kindOf addressMaster.isMaster addressMaster.slaveOf addressMaster.rankOf addressMaster.masterAt busAttach.noSuchAddress busAttach.occupied busAttach.newcomer busAttach.takesSeat busAttach.attaches busBus.poweredOn busBus.attachedTo busBus.turnAt busBus.withTurn busBus.refusedBy busBus.done busEvents.events busFind.slaveAddress busFind.isMasterAt busFind.firstOf busFind.thereIs busQueue.unusable busQueue.noTarget busQueue.noCommand busQueue.holds busQueue.queuesTelegram busQueue.queuesFrom busQueue.queues busReply.writes busReply.repliesFrom busReply.replies busSlot.generatorSays busSlot.spoken busSlot.slotHeard busSlot.slotRun crcCrc.timesX crcCrc.timesXⁿ crcCrc.crcStep crcCrc.crcFrom crcCrc.crcOf lawsFirst.firstFrom walkApply.bytesFrom walkApply.applied walkField.byteAt walkField.pairAt walkField.valueOf walkField.fieldAt walkForm.formFrom walkForm.formOf scenarioLines.hexesText scenarioLines.beginText scenarioLines.lineText scenarioLines.textOf scenarioLines.slotText scenarioLines.endText scenarioOutput.ran scenarioOutput.printedFrom scenarioOutput.output scenarioPen.hexDigit scenarioPen.hexText scenarioPen.lastDigit scenarioPen.digitsOf scenarioPen.decimalText stationEvents.tells stationHear.admits stationHear.restarted stationHear.hearSyn stationHear.hearQuiet stationHear.noted stationHear.hearReading stationHear.hearSymbol stationHear.hears stationJudge.handedOut stationJudge.judgedTaken stationJudge.readAgain stationJudge.judges stationOutbox.noneHeld stationOutbox.heldIn stationOutbox.waiting stationOutbox.accepted stationOutbox.oldestOf stationOutbox.dropped stationRead.forAll stationRead.answered stationRead.isOwn stationRead.unread stationRead.whole stationRead.addressed stationRead.readOn stationRead.reads stationReplies.noEntries stationReplies.isFor stationReplies.countIn stationReplies.entryOf stationReplies.entryAt stationReplies.withEntry stationReplies.added stationReplies.written stationReplies.answerFor stationSend.left stationSend.released stationSend.disturbed stationSend.failed stationSend.owned stationSend.withdrawn stationSend.hearBid stationSend.sentWhole stationSend.sent stationSend.hearOwn stationSend.taken stationSend.refused stationSend.hearReply stationStation.fresh stationStation.answering stationStation.ready stationStation.bids stationStation.sayBid stationStation.due stationStation.acknowledgement stationStation.says wireForm.covered wireForm.form wireForm.countOf wireForm.telegramForm wireForm.answerForm wireForm.holding wireForm.appended wireLoad.fitting wireLoad.loadOf wirePair.expandOne wirePair.expand wirePair.undoFirst wirePair.undoSecond wirePair.undo wireReader.masterStart wireReader.answerStart wireReader.ended wireReader.more wireReader.onward wireReader.placeAfter wireReader.readQq wireReader.readNn wireReader.readByte wireReader.readData wireReader.readCrc wireReader.readEscape wireReader.readOther wireReader.readOne wireSymbol.kindOf stationTurn.goes
 sample = refl
