@@ -1,35 +1,72 @@
-// A scenario run from its bytes: its lines go to standard output as the slots go by.
-use scenario::form::Form;
-use scenario::pen::PAGE;
+// A scenario from a file descriptor to standard output: read, then fill, write, again until it is done. No contract can speak of
+// what is read and written; what is filled is proved in `scenario` and `printed`.
+use libc::STDOUT_FILENO;
+use scenario::fill::Printing;
+use scenario::pen::ROOM;
 
-mod printer;
-mod step;
+// One byte more than a scenario may have tells a file that is too long.
+const INPUT: usize = 65537;
 
-use printer::OUT;
+enum Got {
+    Bytes(usize),
+    Failed,
+}
 
-pub fn run(s: &[u8]) {
-    let mut out = [0u8; OUT];
-    let mut page = [0u8; PAGE];
-    let used = printer::print(&mut out, 0, b"ebus bench\n");
-    let form = scenario::form::form_of(s);
-    match form {
-        Form::Good => {
-            let end = step::fields(s, &mut out, used, &mut page);
-            printer::flush(out, end);
+// Reads until the buffer is full or the input ends.
+fn read(fd: i32, buffer: &mut [u8]) -> Got {
+    let mut got: usize = 0;
+    while got < buffer.len() {
+        let more = libc::read(fd, &mut buffer[got..]);
+        if more < 0 {
+            return Got::Failed;
         }
-        Form::BadField(_) => {
-            let end = refused(form, &mut out, used, &mut page);
-            printer::flush(out, end);
+        let n = io::count(more, &buffer[got..]);
+        if n == 0 {
+            return Got::Bytes(got);
         }
-        Form::TooLong => {
-            let end = refused(form, &mut out, used, &mut page);
-            printer::flush(out, end);
+        got += n;
+    }
+    Got::Bytes(got)
+}
+
+// Writes the first bytes of a buffer.
+fn written(out: [u8; ROOM], used: usize) -> bool {
+    if used <= ROOM {
+        io::write_all(STDOUT_FILENO, &out[..used])
+    } else {
+        true
+    }
+}
+
+fn run(s: &[u8]) {
+    let mut out = [0u8; ROOM];
+    let mut p = Printing::start(s);
+    loop {
+        if p.is_done() {
+            return;
+        }
+        let f = p.fill(s, &mut out);
+        if written(out, f.used) {
+            p = f.printing;
+        } else {
+            os::fail(b"standard output");
+            return;
         }
     }
 }
 
-// A bad form prints its line and nothing else.
-fn refused(form: Form, out: &mut [u8; OUT], used: usize, page: &mut [u8; PAGE]) -> usize {
-    let k = scenario::lines::form_line(page, form);
-    printer::print_page(out, used, page, k)
+fn run_first(input: [u8; INPUT], n: usize) {
+    if n <= INPUT {
+        run(&input[..n]);
+    }
+}
+
+// The scenario that a file descriptor gives, run to its end; `name` is what standard error calls it where it cannot be read.
+pub fn play(fd: i32, name: &[u8]) {
+    let mut input = [0u8; INPUT];
+    let got = read(fd, &mut input);
+    match got {
+        Got::Bytes(n) => run_first(input, n),
+        Got::Failed => os::fail(name),
+    }
 }

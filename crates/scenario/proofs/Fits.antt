@@ -1,13 +1,14 @@
--- A page is never too short: the lines of a slot take at most 80 bytes a station, so at most 2560, and the page holds them whole.
--- So do the line of a refusal, the line of a scenario's form and the last line. Assumes nothing.
+-- A page is never too short: the lines of a slot take at most 80 bytes a station, so at most 2560. So do the line of a refusal,
+-- the header with the line of a scenario's form, and the last line. Assumes nothing.
 use mathlib.Core.Path.{_≡_, refl, ap, _∙_}
-use mathlib.Core.Bool.{Bool, true, false}
+use mathlib.Core.Bool.{Bool, true, false, cond}
 use mathlib.Core.List.{List, [], _∷_, _++_, append-assoc}
-use Prim.Native.Nat.{ℕ, zero, suc, _+_, _*_, _≤_, _<_}
+use Prim.Native.Nat.{ℕ, zero, suc, _+_, _*_, _/_, _≤_, _<_}
 use native.Mathlib.Omega.{arith}
 use borrow.Author.Tests.{lt-ltb}
-use lib.ListN.{length, take, drop, length-append, length-take}
-use lib.Seq.{set-at, append-snoc, take-append-seam}
+use lib.Dec.{ltb}
+use lib.ListN.{length, drop, length-append, length-take}
+use lib.Seq.{set-at, append-snoc}
 use Rattle.wire.specs.Form.{bytesOf}
 use Rattle.wire.specs.declared.part.Telegram.{Telegram}
 use Rattle.station.specs.Events.{owns, taken, failed, given, answer, Event, numberOf, event, freeEvent, eventsAs, tells}
@@ -21,21 +22,21 @@ use Rattle.bus.specs.declared.bus.Bus.{Bus}
 use Rattle.bus.specs.declared.refusal.Verdict.{Verdict}
 use Rattle.bus.specs.declared.refusal.Verdict.the-variants.{Done, Refused}
 use Rattle.bus.proofs.Loops.{attached-fit}
-use Rattle.scenario.specs.declared.form.Form.{Form}
-use Rattle.scenario.specs.declared.form.Form.the-variants.{Good, BadField, TooLong}
-use Rattle.scenario.specs.Pen.{Pen, pen, pageRoom, pennedOne, penned, hexText, digitsFrom, decimalText, placesOf}
+use Rattle.walk.specs.declared.form.Form.{Form}
+use Rattle.walk.specs.declared.form.Form.the-variants.{Good, BadField, TooLong}
+use Rattle.scenario.specs.Pen.{Pen, pen, pageRoom, room, pennedOne, penned, hexText, lastDigit, digitsOf, decimalText}
 use Rattle.scenario.specs.Lines.{wordText, valuesText, newline, refusedText, hexesText, beginText, lineText, textOf, slotText, verdictText, formText, endText}
-use Rattle.scenario.proofs.Written.{places-at-most}
+use Rattle.scenario.specs.Output.{header}
 use Rattle.scenario.proofs.Texts.{text-append}
 
 -- ---- a text that the page has room for is written whole
 
-written-one : (front : List ℕ) (r : ℕ) (rs : List ℕ) (x n : ℕ) → length front ≡ n → n < pageRoom
+written-one : (front : List ℕ) (r : ℕ) (rs : List ℕ) (x n : ℕ) → length front ≡ n → n < room
     → pennedOne (pen (front ++ (r ∷ rs)) n) x ≡ pen ((front ++ (x ∷ [])) ++ rs) (n + 1)
 unfolding pennedOne
-written-one front r rs x n e h = simp (lt-ltb n pageRoom h, set-at front r rs x n e, append-snoc front x rs)
+written-one front r rs x n e h = simp (lt-ltb n room h, set-at front r rs x n e, append-snoc front x rs)
 
-written-from : (xs front rest : List ℕ) (n m : ℕ) → length front ≡ n → n + length xs ≡ m → m ≤ pageRoom → length xs ≤ length rest
+written-from : (xs front rest : List ℕ) (n m : ℕ) → length front ≡ n → n + length xs ≡ m → m ≤ room → length xs ≤ length rest
     → penned (pen (front ++ rest) n) xs ≡ pen (front ++ (xs ++ drop (length xs) rest)) m
 unfolding penned
 written-from [] front rest n m e f h l = let g : n ≡ m = omega arith in ap (λ (k : ℕ). pen (front ++ rest) k) g
@@ -45,31 +46,26 @@ written-from (x ∷ xs) front (r ∷ rs) n m e f h l =
     ∙ written-from xs (front ++ (x ∷ [])) rs (n + 1) m (omega (arith, length-append front (x ∷ []))) (omega arith) h (omega arith)
     ∙ ap (λ (v : List ℕ). pen v m) (append-assoc front (x ∷ []) (xs ++ drop (length xs) rs))
 
--- the text, and behind it the page as it was; the place is the text's length
-pub written-whole : (page xs : List ℕ) → length page ≡ pageRoom → length xs ≤ pageRoom
+-- the text, and behind it the buffer as it was; the place is the text's length
+pub written-whole : (page xs : List ℕ) → length page ≡ room → length xs ≤ room
     → penned (pen page 0) xs ≡ pen (xs ++ drop (length xs) page) (length xs)
 written-whole page xs e h = written-from xs [] page 0 (length xs) refl (omega arith) h (omega arith)
 
--- so a caller who is handed the place r finds the text, and nothing else, before it
-pub handed-over : (page exit : List ℕ) (r : ℕ) (xs : List ℕ) → length page ≡ pageRoom → length xs ≤ pageRoom
-    → pen exit r ≡ penned (pen page 0) xs → (r ≡ length xs) × (take r exit ≡ xs)
-handed-over page exit r xs e h f =
-    let g = f ∙ written-whole page xs e h in
-    let n : r ≡ length xs = ap (λ (v : Pen). v .at) g in
-    let w : exit ≡ xs ++ drop (length xs) page = ap (λ (v : Pen). v .page) g in
-    (n, rw (n, w) (take-append-seam xs (drop (length xs) page)))
-
 -- ---- how long the texts are
 
-digits-length : (k n : ℕ) → length (digitsFrom k n) ≡ k
-unfolding digitsFrom
-digits-length zero n = refl
-digits-length (suc k) n = ap suc (digits-length k n)
+digits-most : (k n : ℕ) → length (digitsOf k n) ≤ k
+unfolding digitsOf
+digits-most zero n = omega arith
+digits-most (suc k) n = go (ltb n 10) (digits-most k (n / 10))
+  where
+    go : (t : Bool) → length (digitsOf k (n / 10)) ≤ k → length (cond t (lastDigit n ∷ []) (digitsOf k (n / 10) ++ (lastDigit n ∷ []))) ≤ suc k
+    go true h = omega arith
+    go false h = omega (arith, length-append (digitsOf k (n / 10)) (lastDigit n ∷ []))
 
 -- a number takes at most ten digits
 pub decimal-most : (n : ℕ) → length (decimalText n) ≤ 10
 unfolding decimalText
-decimal-most n = omega (arith, digits-length (placesOf n) n, places-at-most n)
+decimal-most n = digits-most 10 n
 
 hex-length : (b : ℕ) → length (hexText b) ≡ 3
 unfolding hexText
@@ -180,12 +176,7 @@ slot-most b h =
       attached-fit b,
     )
 
--- ---- the theorems
-
--- the lines of a slot stand at the page's front, whole, and behind them the page is as it was
-pub page-suffices : (b : Bus) (page : List ℕ) → length page ≡ pageRoom → Sized (attachedTurns b)
-    → penned (pen page 0) (slotText b) ≡ pen (slotText b ++ drop (length (slotText b)) page) (length (slotText b))
-page-suffices b page e h = written-whole page (slotText b) e (slot-most b h)
+-- ---- the other lines
 
 pub verdict-most : (v : Verdict) → length (verdictText v) ≤ pageRoom
 verdict-most Done = omega arith
@@ -193,32 +184,30 @@ verdict-most (Refused r) =
     let d = decimalText (refusalNumber r) in
     omega (arith, length-append (refusedText ++ d) newline, length-append refusedText d, decimal-most (refusalNumber r))
 
-pub verdict-suffices : (v : Verdict) (page : List ℕ) → length page ≡ pageRoom
-    → penned (pen page 0) (verdictText v) ≡ pen (verdictText v ++ drop (length (verdictText v)) page) (length (verdictText v))
-verdict-suffices v page e = written-whole page (verdictText v) e (verdict-most v)
-
 -- `refused`, a number, a second number
-refused-most : (m n : ℕ) → length (refusedText ++ decimalText m ++ (32 ∷ decimalText n) ++ newline) ≤ pageRoom
+refused-most : (m n : ℕ) → length (refusedText ++ decimalText m ++ (32 ∷ decimalText n) ++ newline) ≤ 40
 refused-most m n =
     let a = refusedText ++ decimalText m in
-    let d : List ℕ = 32 ∷ decimalText n in
-    omega (arith, length-append (a ++ d) newline, length-append a d, length-append refusedText (decimalText m), decimal-most m, decimal-most n)
+    let b : List ℕ = 32 ∷ decimalText n in
+    omega (
+      arith,
+      length-append (a ++ b) newline,
+      length-append a b,
+      length-append refusedText (decimalText m),
+      decimal-most m,
+      decimal-most n,
+    )
 
-pub form-most : (f : Form) → length (formText f) ≤ pageRoom
+form-most : (f : Form) → length (formText f) ≤ 40
 form-most Good = omega arith
 form-most (BadField at) = refused-most 14 at
 form-most TooLong = refused-most 15 65536
 
-pub form-suffices : (f : Form) (page : List ℕ) → length page ≡ pageRoom
-    → penned (pen page 0) (formText f) ≡ pen (formText f ++ drop (length (formText f)) page) (length (formText f))
-form-suffices f page e = written-whole page (formText f) e (form-most f)
+pub opening-most : (f : Form) → length (header ++ formText f) ≤ pageRoom
+opening-most f = omega (arith, length-append header (formText f), form-most f)
 
 pub end-most : (slot : ℕ) → length (endText slot) ≤ pageRoom
 unfolding endText
 end-most slot =
     let w : List ℕ = 101 ∷ 110 ∷ 100 ∷ 32 ∷ [] in
     omega (arith, length-append (w ++ decimalText slot) newline, length-append w (decimalText slot), decimal-most slot)
-
-pub end-suffices : (slot : ℕ) (page : List ℕ) → length page ≡ pageRoom
-    → penned (pen page 0) (endText slot) ≡ pen (endText slot ++ drop (length (endText slot)) page) (length (endText slot))
-end-suffices slot page e = written-whole page (endText slot) e (end-most slot)

@@ -1,5 +1,9 @@
-pub mod Fields
+pub mod Fewer
+pub mod Filling
+pub mod Fills
 pub mod Fits
+pub mod OfMoments
+pub mod ReadsBack
 pub mod Sample
 pub mod Texts
 pub mod Written

@@ -1,15 +1,16 @@
 -- Bytes written one behind the other: two texts are written as the one that they make, and a loop writes its text piece by piece.
 -- Assumes nothing.
 use mathlib.Core.Path.{_≡_, refl, sym, ap, _∙_}
-use mathlib.Core.Bool.{Bool, true, false, cond}
+use mathlib.Core.Bool.{cond}
 use mathlib.Core.List.{List, [], _∷_, _++_}
 use Prim.Native.Nat.{ℕ, zero, suc, _+_, _-_, _/_, _≤_, _<_}
 use native.Mathlib.Numerals.{add-one}
 use native.Mathlib.Omega.{arith}
+use borrow.Author.Tests.{lt-ltb, le-ltb}
 use lib.Dec.{ltb}
 use lib.ListN.{length, getD, take, drop, length-take}
 use lib.Seq.{drop-cons, getD-take}
-use Rattle.scenario.specs.Pen.{Pen, pennedOne, penned, hexDigit, hexText, placesOf, digitAt, digitsFrom}
+use Rattle.scenario.specs.Pen.{Pen, pennedOne, penned, hexDigit, hexText, lastDigit, digitsOf}
 
 pub penned-append : (p : Pen) (xs ys : List ℕ) → penned (penned p xs) ys ≡ penned p (xs ++ ys)
 unfolding penned
@@ -56,27 +57,22 @@ left-of-first {A} l n i d f h =
 
 -- ---- digits
 
--- at most ten digits
-at-most : (b : Bool) (k m : ℕ) → k ≤ 10 → m ≤ 10 → cond b k m ≤ 10
-at-most true k m h l = h
-at-most false k m h l = l
-
-pub places-at-most : (n : ℕ) → placesOf n ≤ 10
-unfolding placesOf
-places-at-most n =
-    at-most (ltb n 10) 1 _ (omega arith)
-    (at-most (ltb n 100) 2 _ (omega arith)
-    (at-most (ltb n 1000) 3 _ (omega arith)
-    (at-most (ltb n 10000) 4 _ (omega arith)
-    (at-most (ltb n 100000) 5 _ (omega arith)
-    (at-most (ltb n 1000000) 6 _ (omega arith)
-    (at-most (ltb n 10000000) 7 _ (omega arith)
-    (at-most (ltb n 100000000) 8 _ (omega arith)
-    (at-most (ltb n 1000000000) 9 10 (omega arith) (omega arith)))))))))
-
-pub digits-next : (k n : ℕ) → 0 < k → digitsFrom k n ≡ digitAt n (k - 1) ∷ digitsFrom (k - 1) n
-unfolding digitsFrom
+pub digits-next : (k n : ℕ) → 0 < k
+    → digitsOf k n ≡ cond (ltb n 10) (lastDigit n ∷ []) (digitsOf (k - 1) (n / 10) ++ (lastDigit n ∷ []))
+unfolding digitsOf
 digits-next zero n h = absurd (omega arith)
 digits-next (suc k) n h =
     let e : suc k - 1 ≡ k = omega arith in
     rw e
+
+pub no-digits : (k n : ℕ) → k ≤ 0 → digitsOf k n ≡ []
+unfolding digitsOf
+no-digits zero n h = refl
+no-digits (suc k) n h = absurd (omega arith)
+
+-- a number below 10 is its last digit; any other is the text of its tenth and its last digit
+pub one-digit : (k n : ℕ) → 0 < k → n < 10 → digitsOf k n ≡ lastDigit n ∷ []
+one-digit k n h l = simp (digits-next k n h, lt-ltb n 10 l)
+
+pub more-digits : (k n : ℕ) → 0 < k → 10 ≤ n → digitsOf k n ≡ digitsOf (k - 1) (n / 10) ++ (lastDigit n ∷ [])
+more-digits k n h l = simp (digits-next k n h, le-ltb n 10 l)

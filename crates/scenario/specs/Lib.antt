@@ -1,6 +1,5 @@
-pub mod Apply
-pub mod Field
-pub mod Form
+pub mod Fill
 pub mod Lines
 pub mod Output
 pub mod Pen
+pub mod ReadBack

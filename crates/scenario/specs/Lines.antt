@@ -13,8 +13,8 @@ use Rattle.bus.specs.Refusal.{refusalNumber}
 use Rattle.bus.specs.declared.bus.Bus.{Bus}
 use Rattle.bus.specs.declared.refusal.Verdict.{Verdict}
 use Rattle.bus.specs.declared.refusal.Verdict.the-variants.{Done, Refused}
-use Rattle.scenario.specs.declared.form.Form.{Form}
-use Rattle.scenario.specs.declared.form.Form.the-variants.{Good, BadField, TooLong}
+use Rattle.walk.specs.declared.form.Form.{Form}
+use Rattle.walk.specs.declared.form.Form.the-variants.{Good, BadField, TooLong}
 use Rattle.scenario.specs.Pen.{hexText, decimalText}
 
 -- " owns", " taken", " failed ", " free", " given", " answer"

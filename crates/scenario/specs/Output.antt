@@ -8,13 +8,13 @@ use Rattle.bus.specs.Bus.{poweredOn}
 use Rattle.bus.specs.Slot.{slotRun}
 use Rattle.bus.specs.declared.bus.Bus.{Bus}
 use Rattle.bus.specs.declared.bus.Answer.{Answer}
-use Rattle.scenario.specs.declared.field.Field.{Field}
-use Rattle.scenario.specs.declared.field.Field.the-variants.{Master, Slave, Reply, Queue, Run, Heard, Quiet, Bad}
-use Rattle.scenario.specs.declared.form.Form.{Form}
-use Rattle.scenario.specs.declared.form.Form.the-variants.{Good, BadField, TooLong}
-use Rattle.scenario.specs.Field.{fieldAt}
-use Rattle.scenario.specs.Form.{formOf}
-use Rattle.scenario.specs.Apply.{applied}
+use Rattle.walk.specs.declared.field.Field.{Field}
+use Rattle.walk.specs.declared.field.Field.the-variants.{Master, Slave, Reply, Queue, Run, Heard, Quiet, Bad}
+use Rattle.walk.specs.declared.form.Form.{Form}
+use Rattle.walk.specs.declared.form.Form.the-variants.{Good, BadField, TooLong}
+use Rattle.walk.specs.Field.{fieldAt}
+use Rattle.walk.specs.Form.{formOf}
+use Rattle.walk.specs.Apply.{applied}
 use Rattle.scenario.specs.Lines.{slotText, verdictText, formText, endText}
 
 -- a bus, and what was printed on the way to it

@@ -1,6 +1,4 @@
-// The bench's fields in and its lines out, as bytes (01, "Bench program").
-pub mod apply;
-pub mod field;
-pub mod form;
+// The bench's lines as bytes, and its whole output, filled into a lent buffer.
+pub mod fill;
 pub mod lines;
 pub mod pen;

@@ -7,20 +7,20 @@ ghost use Rattle.station.specs.Events.{numberOf};
 ghost use Rattle.bus.specs.Bus.{attachedTurns};
 ghost use Rattle.bus.specs.Events.{linesOf};
 ghost use Rattle.bus.specs.Refusal.{refusalNumber};
-use crate::form::Form;
 use crate::pen;
-use crate::pen::PAGE;
+use crate::pen::ROOM;
 use bus::bus::Bus;
 use bus::refusal::Refusal;
 use bus::refusal::Verdict;
 use station::phase::Failure;
 use station::phase::Told;
 use station::station::Turn;
+use walk::form::Form;
 use wire::part::Load;
 use wire::part::Telegram;
 
 // Every line begins with the slot and the station's first address.
-fn begin(page: &mut [u8; PAGE], at: usize, slot: u32, station: u8) -> usize
+fn begin(page: &mut [u8; ROOM], at: usize, slot: u32, station: u8) -> usize
     ensures { λ r. ⌜ pen (now (page .exit)) r ≡ penned (pen (now (page .entry)) at) (beginText slot station) ⌝ }
 {
     let to = pen::decimal(page, at, slot);
@@ -28,7 +28,7 @@ fn begin(page: &mut [u8; PAGE], at: usize, slot: u32, station: u8) -> usize
 }
 
 // A line with a word and nothing more.
-fn plain(page: &mut [u8; PAGE], at: usize, slot: u32, station: u8, word: &[u8]) -> usize
+fn plain(page: &mut [u8; ROOM], at: usize, slot: u32, station: u8, word: &[u8]) -> usize
     ensures { λ r. ⌜ pen (now (page .exit)) r ≡ penned (pen (now (page .entry)) at) (plainText slot station (now (word .entry))) ⌝ }
 {
     let to = begin(page, at, slot, station);
@@ -48,7 +48,7 @@ fn failure_number(f: Failure) -> u32
     }
 }
 
-fn failed(page: &mut [u8; PAGE], at: usize, slot: u32, station: u8, f: Failure) -> usize
+fn failed(page: &mut [u8; ROOM], at: usize, slot: u32, station: u8, f: Failure) -> usize
     ensures { λ r. ⌜ pen (now (page .exit)) r ≡ penned (pen (now (page .entry)) at) (failureText slot station f) ⌝ }
 {
     let to = begin(page, at, slot, station);
@@ -58,7 +58,7 @@ fn failed(page: &mut [u8; PAGE], at: usize, slot: u32, station: u8, f: Failure) 
 }
 
 // NN and the data.
-fn load(page: &mut [u8; PAGE], at: usize, l: Load) -> usize
+fn load(page: &mut [u8; ROOM], at: usize, l: Load) -> usize
     ensures { λ r. ⌜ pen (now (page .exit)) r ≡ penned (pen (now (page .entry)) at) (loadText l) ⌝ }
 {
     let nn = wire::form::count_of(l);
@@ -74,7 +74,7 @@ fn load(page: &mut [u8; PAGE], at: usize, l: Load) -> usize
 }
 
 // given with QQ, PB, SB, NN and data.
-fn given(page: &mut [u8; PAGE], at: usize, slot: u32, station: u8, t: Telegram) -> usize
+fn given(page: &mut [u8; ROOM], at: usize, slot: u32, station: u8, t: Telegram) -> usize
     ensures { λ r. ⌜ pen (now (page .exit)) r ≡ penned (pen (now (page .entry)) at) (givenText slot station t) ⌝ }
 {
     let to = begin(page, at, slot, station);
@@ -88,7 +88,7 @@ fn given(page: &mut [u8; PAGE], at: usize, slot: u32, station: u8, t: Telegram) 
 }
 
 // answer with the slave's address, NN and data.
-fn answer(page: &mut [u8; PAGE], at: usize, slot: u32, station: u8, t: Telegram) -> usize
+fn answer(page: &mut [u8; ROOM], at: usize, slot: u32, station: u8, t: Telegram) -> usize
     ensures { λ r. ⌜ pen (now (page .exit)) r ≡ penned (pen (now (page .entry)) at) (answerText slot station t) ⌝ }
 {
     let to = begin(page, at, slot, station);
@@ -100,7 +100,7 @@ fn answer(page: &mut [u8; PAGE], at: usize, slot: u32, station: u8, t: Telegram)
 }
 
 // owns, taken, failed and free lines of one station.
-fn first_of(page: &mut [u8; PAGE], at: usize, slot: u32, t: Turn) -> usize
+fn first_of(page: &mut [u8; ROOM], at: usize, slot: u32, t: Turn) -> usize
     ensures { λ r. ⌜ pen (now (page .exit)) r ≡ penned (pen (now (page .entry)) at) (passText slot false t) ⌝ }
 {
     let a = t.station.address;
@@ -121,7 +121,7 @@ fn first_of(page: &mut [u8; PAGE], at: usize, slot: u32, t: Turn) -> usize
 }
 
 // given and answer lines of one station.
-fn last_of(page: &mut [u8; PAGE], at: usize, slot: u32, t: Turn) -> usize
+fn last_of(page: &mut [u8; ROOM], at: usize, slot: u32, t: Turn) -> usize
     ensures { λ r. ⌜ pen (now (page .exit)) r ≡ penned (pen (now (page .entry)) at) (passText slot true t) ⌝ }
 {
     let s = t.station;
@@ -140,7 +140,7 @@ fn last_of(page: &mut [u8; PAGE], at: usize, slot: u32, t: Turn) -> usize
     }
 }
 
-fn one_of(page: &mut [u8; PAGE], at: usize, slot: u32, last: bool, t: Turn) -> usize
+fn one_of(page: &mut [u8; ROOM], at: usize, slot: u32, last: bool, t: Turn) -> usize
     ensures { λ r. ⌜ pen (now (page .exit)) r ≡ penned (pen (now (page .entry)) at) (passText slot last t) ⌝ }
 {
     if last {
@@ -151,7 +151,7 @@ fn one_of(page: &mut [u8; PAGE], at: usize, slot: u32, last: bool, t: Turn) -> u
 }
 
 // One pass over the stations in attach order.
-fn pass(page: &mut [u8; PAGE], at: usize, b: Bus, last: bool) -> usize
+fn pass(page: &mut [u8; ROOM], at: usize, b: Bus, last: bool) -> usize
     ensures { λ r. ⌜ pen (now (page .exit)) r ≡ penned (pen (now (page .entry)) at) (textOf (b .slot) (linesOf last (attachedTurns b))) ⌝ }
 {
     let n = b.attached();
@@ -167,10 +167,10 @@ fn pass(page: &mut [u8; PAGE], at: usize, b: Bus, last: bool) -> usize
 }
 
 // The lines of the slot that was just run; the answer is how many bytes of the page they take.
-pub fn slot_lines(page: &mut [u8; PAGE], b: Bus) -> usize
-    ensures { λ r. ⌜ pen (now (page .exit)) r ≡ penned (pen (now (page .entry)) 0) (slotText b) ⌝ }
+pub fn slot_lines(page: &mut [u8; ROOM], at: usize, b: Bus) -> usize
+    ensures { λ r. ⌜ pen (now (page .exit)) r ≡ penned (pen (now (page .entry)) at) (slotText b) ⌝ }
 {
-    let to = pass(page, 0, b, false);
+    let to = pass(page, at, b, false);
     pass(page, to, b, true)
 }
 
@@ -194,13 +194,13 @@ fn refusal_number(r: Refusal) -> u32
 }
 
 // `refused N`, or nothing.
-pub fn verdict_line(page: &mut [u8; PAGE], v: Verdict) -> usize
-    ensures { λ r. ⌜ pen (now (page .exit)) r ≡ penned (pen (now (page .entry)) 0) (verdictText v) ⌝ }
+pub fn verdict_line(page: &mut [u8; ROOM], at: usize, v: Verdict) -> usize
+    ensures { λ r. ⌜ pen (now (page .exit)) r ≡ penned (pen (now (page .entry)) at) (verdictText v) ⌝ }
 {
     match v {
-        Verdict::Done => 0,
+        Verdict::Done => at,
         Verdict::Refused(r) => {
-            let to = pen::word(page, 0, b"refused ");
+            let to = pen::word(page, at, b"refused ");
             let end = pen::decimal(page, to, refusal_number(r));
             pen::word(page, end, b"\n")
         }
@@ -208,25 +208,25 @@ pub fn verdict_line(page: &mut [u8; PAGE], v: Verdict) -> usize
 }
 
 // `refused 14` with the offset, `refused 15 65536`, or nothing.
-pub fn form_line(page: &mut [u8; PAGE], f: Form) -> usize
-    ensures { λ r. ⌜ pen (now (page .exit)) r ≡ penned (pen (now (page .entry)) 0) (formText f) ⌝ }
+pub fn form_line(page: &mut [u8; ROOM], at: usize, f: Form) -> usize
+    ensures { λ r. ⌜ pen (now (page .exit)) r ≡ penned (pen (now (page .entry)) at) (formText f) ⌝ }
 {
     match f {
-        Form::Good => 0,
-        Form::BadField(at) => {
-            let to = pen::word(page, 0, b"refused 14 ");
-            let end = pen::decimal(page, to, at);
+        Form::Good => at,
+        Form::BadField(offset) => {
+            let to = pen::word(page, at, b"refused 14 ");
+            let end = pen::decimal(page, to, offset);
             pen::word(page, end, b"\n")
         }
-        Form::TooLong => pen::word(page, 0, b"refused 15 65536\n"),
+        Form::TooLong => pen::word(page, at, b"refused 15 65536\n"),
     }
 }
 
 // `end` and the slot number.
-pub fn end_line(page: &mut [u8; PAGE], slot: u32) -> usize
-    ensures { λ r. ⌜ pen (now (page .exit)) r ≡ penned (pen (now (page .entry)) 0) (endText slot) ⌝ }
+pub fn end_line(page: &mut [u8; ROOM], at: usize, slot: u32) -> usize
+    ensures { λ r. ⌜ pen (now (page .exit)) r ≡ penned (pen (now (page .entry)) at) (endText slot) ⌝ }
 {
-    let to = pen::word(page, 0, b"end ");
+    let to = pen::word(page, at, b"end ");
     let end = pen::decimal(page, to, slot);
     pen::word(page, end, b"\n")
 }

@@ -1,30 +1,19 @@
-// Bytes written one behind the other into a lent page: words, decimal numbers, bytes in two hex digits.
+// Bytes written one behind the other into a lent buffer: words, decimal numbers, bytes in two hex digits.
 ghost use mathlib.Core.Path.{_≡_};
 ghost use mathlib.Core.List.{[], _∷_};
-ghost use Prim.Native.Nat.{_<_};
-ghost use Rattle.scenario.specs.Pen.{pen, penned, hexDigit, hexText, placesOf, digitAt, decimalText};
+ghost use Rattle.scenario.specs.Pen.{pen, penned, hexDigit, hexText, lastDigit, digitsOf, decimalText};
 
-// Room for 32 lines of at most 80 bytes: the lines of any slot.
+// A page has room for 32 lines of at most 80 bytes: the lines of any slot.
 pub const PAGE: usize = 2560;
 
-const TENS: [u32; 10] = [
-    1,
-    10,
-    100,
-    1_000,
-    10_000,
-    100_000,
-    1_000_000,
-    10_000_000,
-    100_000_000,
-    1_000_000_000,
-];
+// The lent buffer.
+pub const ROOM: usize = 65536;
 
-// One byte more; a full page stays as it is.
-fn put(page: &mut [u8; PAGE], at: usize, b: u8) -> usize
+// One byte more; a full buffer stays as it is.
+fn put(page: &mut [u8; ROOM], at: usize, b: u8) -> usize
     ensures { λ r. ⌜ pen (now (page .exit)) r ≡ penned (pen (now (page .entry)) at) (b ∷ []) ⌝ }
 {
-    if at < PAGE {
+    if at < ROOM {
         page[at] = b;
         at + 1
     } else {
@@ -32,7 +21,7 @@ fn put(page: &mut [u8; PAGE], at: usize, b: u8) -> usize
     }
 }
 
-pub(crate) fn word(page: &mut [u8; PAGE], at: usize, s: &[u8]) -> usize
+pub(crate) fn word(page: &mut [u8; ROOM], at: usize, s: &[u8]) -> usize
     ensures { λ r. ⌜ pen (now (page .exit)) r ≡ penned (pen (now (page .entry)) at) (now (s .entry)) ⌝ }
 {
     let mut to = at;
@@ -52,7 +41,7 @@ fn hex_digit(d: u8) -> u8
 }
 
 // A space and a byte.
-pub(crate) fn hex(page: &mut [u8; PAGE], at: usize, b: u8) -> usize
+pub(crate) fn hex(page: &mut [u8; ROOM], at: usize, b: u8) -> usize
     ensures { λ r. ⌜ pen (now (page .exit)) r ≡ penned (pen (now (page .entry)) at) (hexText b) ⌝ }
 {
     let to = put(page, at, 32);
@@ -60,50 +49,31 @@ pub(crate) fn hex(page: &mut [u8; PAGE], at: usize, b: u8) -> usize
     put(page, mid, hex_digit(b))
 }
 
-// How many decimal digits a number has.
-fn places(n: u32) -> usize
-    ensures { λ r. ⌜ r ≡ placesOf n ⌝ }
+// The last decimal digit of a number.
+fn last_digit(n: u32) -> u8
+    ensures { λ r. ⌜ r ≡ lastDigit n ⌝ }
 {
-    if n < 10 {
-        1
-    } else if n < 100 {
-        2
-    } else if n < 1_000 {
-        3
-    } else if n < 10_000 {
-        4
-    } else if n < 100_000 {
-        5
-    } else if n < 1_000_000 {
-        6
-    } else if n < 10_000_000 {
-        7
-    } else if n < 100_000_000 {
-        8
-    } else if n < 1_000_000_000 {
-        9
+    48 + (n % 10) as u8
+}
+
+// The text of n/10, and behind it the last digit of n; `most` digits at most.
+fn digits(page: &mut [u8; ROOM], at: usize, n: u32, most: u32) -> usize
+    ensures { λ r. ⌜ pen (now (page .exit)) r ≡ penned (pen (now (page .entry)) at) (digitsOf most n) ⌝ }
+{
+    if 0 < most {
+        if n < 10 {
+            put(page, at, last_digit(n))
+        } else {
+            let to = digits(page, at, n / 10, most - 1);
+            put(page, to, last_digit(n))
+        }
     } else {
-        10
+        at
     }
 }
 
-// The digit of a number at a place, counted from the right.
-fn digit(n: u32, place: usize) -> u8
-    requires { ⌜ place < 10 ⌝ }
-    ensures { λ r. ⌜ r ≡ digitAt n place ⌝ }
-{
-    let tens = TENS[place];
-    (n / tens % 10) as u8 + 48
-}
-
-pub(crate) fn decimal(page: &mut [u8; PAGE], at: usize, n: u32) -> usize
+pub(crate) fn decimal(page: &mut [u8; ROOM], at: usize, n: u32) -> usize
     ensures { λ r. ⌜ pen (now (page .exit)) r ≡ penned (pen (now (page .entry)) at) (decimalText n) ⌝ }
 {
-    let mut to = at;
-    let mut left = places(n);
-    while 0 < left {
-        left -= 1;
-        to = put(page, to, digit(n, left));
-    }
-    to
+    digits(page, at, n, 10)
 }

@@ -1,8 +1,6 @@
 // The stored scenarios, each named and run as the bench program runs it. Its arguments are their file names.
 use libc::STDOUT_FILENO;
 
-const INPUT: usize = 65537;
-
 fn main() {
     let n = os::arg_count();
     let mut i: usize = 1;
@@ -23,8 +21,6 @@ fn scenario_named(i: usize) {
         os::fail(&path[..length]);
         return;
     }
-    let mut input = [0u8; INPUT];
-    let got = io::read_full(fd, &mut input);
+    desk::play(fd, &path[..length]);
     libc::close(fd);
-    desk::run(&input[..got]);
 }

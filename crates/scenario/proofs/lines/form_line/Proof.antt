@@ -1,6 +1,6 @@
 -- `scenario::lines::form_line` meets its contract. Assumes nothing.
 use borrow.Author.Needs.{needs}
-use Rattle.scenario.specs.Pen.{placesOf, digitAt, digitsFrom, decimalText}
+use Rattle.scenario.specs.Pen.{lastDigit, digitsOf, decimalText}
 use Rattle.scenario.proofs.Written.{nothing, both}
 use Rattle.scenario.proofs.lines.form_line.Statement.{statement}
 use Rattle.scenario.proofs.lines.form_line.Tie as tie
@@ -39,13 +39,13 @@ returns : tie.Need-returns
 returns c = rw (c .enum-told .given .1) (nothing _)
 
 returns-2 : tie.Need-returns-2
-unfolding decimalText digitsFrom placesOf digitAt
+unfolding decimalText digitsOf lastDigit
 returns-2 c =
     rw (c .before .before .before .before .before .before .before .before .before .f .given .1)
     (both _ _ _ (both _ _ _ (c .before .before .before .before .before .word .ensures) (c .before .before .before .decimal .ensures)) (c .word2 .ensures))
 
 returns-3 : tie.Need-returns-3
-unfolding decimalText digitsFrom placesOf digitAt
+unfolding decimalText digitsOf lastDigit
 returns-3 c = rw (c .before .before .before .enum-told2 .given .1) (c .word3 .ensures)
 
 pub form-line-spec : {M : Type 1} → statement M

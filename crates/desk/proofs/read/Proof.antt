@@ -1,0 +1,100 @@
+-- `desk::read` meets its contract: what is read lies within the buffer. Assumes nothing.
+use borrow.Author.Needs.{needs}
+use mathlib.Core.Path.{_≡_}
+use Prim.Native.Nat.{_-_, _≤_}
+use native.Mathlib.Omega.{arith}
+use borrow.Rule.Slice.PartMut.{putMid}
+use lib.ListN.{length, length-take, length-drop}
+use Rattle.desk.proofs.read.Statement.{statement}
+use Rattle.desk.proofs.read.Tie as tie
+
+abbrev Inv-loop : tie.InvT-loop
+Inv-loop fd buffer₀ got₀ buffer got = (got ≤ length buffer) × (length buffer ≡ length buffer₀)
+
+abbrev μ-loop : tie.MeasureT-loop
+μ-loop fd buffer₀ got₀ buffer got = length buffer₀ - got
+
+loop-holds : tie.Need-loop-holds Inv-loop μ-loop
+loop-holds c = search needs
+
+sub-read : tie.Need-sub-read Inv-loop μ-loop
+sub-read c = search needs
+
+part-read-start : tie.Need-part-read-start Inv-loop μ-loop
+part-read-start c = search needs
+
+part-read-end : tie.Need-part-read-end Inv-loop μ-loop
+part-read-end c = search needs
+
+read-requires : tie.Need-read-requires Inv-loop μ-loop
+read-requires c κs = search needs
+
+same-length : tie.Need-same-length Inv-loop μ-loop
+same-length c = search needs
+
+returns : tie.Need-returns Inv-loop μ-loop
+returns c = search needs
+
+sub-count : tie.Need-sub-count Inv-loop μ-loop
+sub-count c = search needs
+
+part-count-start : tie.Need-part-count-start Inv-loop μ-loop
+part-count-start c = search needs
+
+part-count-end : tie.Need-part-count-end Inv-loop μ-loop
+part-count-end c = search needs
+
+count-requires : tie.Need-count-requires Inv-loop μ-loop
+count-requires c κs = search needs
+
+same-length-2 : tie.Need-same-length-2 Inv-loop μ-loop
+same-length-2 c = search needs
+
+returns-2 : tie.Need-returns-2 Inv-loop μ-loop
+returns-2 c = search needs
+
+add-got : tie.Need-add-got Inv-loop μ-loop
+add-got c =
+    let a = c .before .before .before .before .before .before .before .before .before .before in
+    let e : length (putMid (a .loop .got) (length (a .loop .buffer) - a .loop .got) (a .loop .buffer) (c .before .before .before .before .before .before .before .read .last .1 .0)) ≡ length (a .loop .buffer) = search needs in
+    omega (arith, e, simp (length-take, length-drop) at (c .before .count .ensures .0 .0))
+
+loop-less : tie.Need-loop-less Inv-loop μ-loop
+loop-less c = omega arith
+
+loop-again : tie.Need-loop-again Inv-loop μ-loop
+loop-again c =
+    let a = c .before .before .before .before .before .before .before .before .before .before in
+    let e : length (putMid (a .loop .got) (length (a .loop .buffer) - a .loop .got) (a .loop .buffer) (c .before .before .before .before .before .before .before .read .last .1 .0)) ≡ length (a .loop .buffer) = search needs in
+    (omega (arith, e, simp (length-take, length-drop) at (c .before .count .ensures .0 .0)), search needs)
+
+same-length-3 : tie.Need-same-length-3 Inv-loop μ-loop
+same-length-3 c = search needs
+
+returns-3 : tie.Need-returns-3 Inv-loop μ-loop
+returns-3 c = search needs
+
+pub read-spec : {M : Type 1} → statement M
+read-spec =
+    tie.close
+    (tie.spec
+    Inv-loop
+    μ-loop
+    loop-holds
+    sub-read
+    part-read-start
+    part-read-end
+    read-requires
+    same-length
+    returns
+    sub-count
+    part-count-start
+    part-count-end
+    count-requires
+    same-length-2
+    returns-2
+    add-got
+    loop-less
+    loop-again
+    same-length-3
+    returns-3)

@@ -1,0 +1,71 @@
+-- `desk::run` meets its contract: each fill leaves fewer to come. Assumes nothing.
+use borrow.Author.Needs.{needs}
+use mathlib.Core.Path.{_≡_, sym, ap, _∙_}
+use native.Mathlib.Omega.{arith}
+use Rattle.walk.specs.Field.{Bytes}
+use Rattle.scenario.specs.Fill.{Fill}
+use Rattle.scenario.proofs.Fewer.{fillsLeft, fewer}
+use Rattle.desk.proofs.run.Statement.{statement}
+use Rattle.desk.proofs.run.Tie as tie
+
+abbrev Inv-loop : tie.InvT-loop
+Inv-loop s out₀ p₀ t5 out p = Bytes s
+
+abbrev μ-loop : tie.MeasureT-loop
+μ-loop s out₀ p₀ t5 out p = fillsLeft p s
+
+start-requires : tie.Need-start-requires Inv-loop μ-loop
+start-requires c κs = search needs
+
+loop-holds : tie.Need-loop-holds Inv-loop μ-loop
+loop-holds c = λ i. omega (arith, c .before .shared-slice-known .given i)
+
+is-done-requires : tie.Need-is-done-requires Inv-loop μ-loop
+is-done-requires c κs = search needs
+
+returns : tie.Need-returns Inv-loop μ-loop
+returns c = search needs
+
+fill-requires : tie.Need-fill-requires Inv-loop μ-loop
+fill-requires c κs = search needs
+
+written-requires : tie.Need-written-requires Inv-loop μ-loop
+written-requires c κs = search needs
+
+loop-less : tie.Need-loop-less Inv-loop μ-loop
+loop-less c =
+    let f = c .before .before .before in
+    let e = f .before .before in
+    let l = e .before .before in
+    rw (ap (λ (r : Fill). r .printing) (f .fill .ensures))
+    (fewer (l .loop .p) _ (l .loop .out) (l .loop .inv) (sym (e .before .is-done .ensures) ∙ e .if1 .left))
+
+loop-again : tie.Need-loop-again Inv-loop μ-loop
+loop-again c = c .before .before .before .before .before .before .before .loop .inv
+
+slice-aggregate-fail : tie.Need-slice-aggregate-fail Inv-loop μ-loop
+slice-aggregate-fail c = search needs
+
+fail-requires : tie.Need-fail-requires Inv-loop μ-loop
+fail-requires c κs = search needs
+
+returns-2 : tie.Need-returns-2 Inv-loop μ-loop
+returns-2 c = search needs
+
+pub run-spec : {M : Type 1} → statement M
+run-spec =
+    tie.close
+    (tie.spec
+    Inv-loop
+    μ-loop
+    start-requires
+    loop-holds
+    is-done-requires
+    returns
+    fill-requires
+    written-requires
+    loop-less
+    loop-again
+    slice-aggregate-fail
+    fail-requires
+    returns-2)
