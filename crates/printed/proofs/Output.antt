@@ -5,7 +5,7 @@ use mathlib.Core.List.{List, [], _∷_}
 use Prim.Native.Nat.{ℕ, zero, suc, _<_}
 use native.Mathlib.Omega.{arith}
 use lib.ListN.{length, getD, take}
-use Rattle.laws.proofs.FirstIs.{Every, every-map}
+use Rattle.laws.proofs.FirstIs.{every-map}
 use Rattle.station.specs.declared.station.Turn.{Turn}
 use Rattle.bus.specs.Bus.{unseated, attachedTo, attachedTurns, turnAt}
 use Rattle.bus.specs.declared.bus.Bus.{Bus}

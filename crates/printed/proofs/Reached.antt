@@ -1,9 +1,7 @@
 -- Every bus that a scenario comes to is one that calls bring about. Assumes nothing.
-use mathlib.Core.Path.{_≡_, refl}
 use mathlib.Core.Bool.{Bool, true, false, cond}
 use mathlib.Core.List.{List, [], _∷_, _++_}
 use Prim.Native.Nat.{ℕ, zero, suc, _+_, _-_, _<_}
-use native.Mathlib.Omega.{arith}
 use lib.Dec.{eqb, ltb, leb}
 use lib.ListN.{length, take, drop}
 use Rattle.laws.proofs.FirstIs.{Every, none, next}
@@ -20,7 +18,8 @@ use Rattle.walk.specs.declared.field.Field.{Field}
 use Rattle.walk.specs.declared.field.Field.the-variants.{Master, Slave, Reply, Queue, Run, Heard, Quiet, Bad}
 use Rattle.walk.specs.declared.field.Placed.{Placed}
 use Rattle.walk.specs.declared.walk.Moment.the-variants.{Told, Passed, Ended}
-use Rattle.promises.specs.Calls.{Call, attach, queue, reply, slot, heard, AllBytes, Reachable, by-calls, afterCalls}
+use Rattle.walk.proofs.GoodForm.{dropped-bytes}
+use Rattle.promises.specs.Calls.{attach, queue, reply, slot, heard, AllBytes, Reachable, by-calls, afterCalls}
 use Rattle.promises.proofs.Shared.Arrays.{every-append}
 use Rattle.promises.proofs.Shared.Outgoing.{reachable-more}
 
@@ -66,11 +65,6 @@ taken-bytes : (k : ℕ) (s : List ℕ) → Bytes s → AllBytes (take k s)
 taken-bytes zero s b = tt
 taken-bytes (suc k) [] b = tt
 taken-bytes (suc k) (x ∷ s) b = (b 0, taken-bytes k s (λ i. b (suc i)))
-
-dropped-bytes : (k : ℕ) (s : List ℕ) → Bytes s → Bytes (drop k s)
-dropped-bytes zero s b = b
-dropped-bytes (suc k) [] b = b
-dropped-bytes (suc k) (x ∷ s) b = dropped-bytes k s (λ i. b (suc i))
 
 data-bytes : (s : List ℕ) (from to : ℕ) → Bytes s → AllBytes (bytesFrom s from to)
 unfolding bytesFrom

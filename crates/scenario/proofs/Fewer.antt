@@ -1,7 +1,7 @@
 -- Each fill brings the end nearer, whatever the buffer: so the program that fills until it is done ends. Assumes nothing.
 use mathlib.Core.Path.{_≡_, refl}
 use mathlib.Core.Bool.{Bool, true, false, cond}
-use mathlib.Core.List.{List, []}
+use mathlib.Core.List.{List}
 use Prim.Native.Nat.{ℕ, zero, suc, _+_, _-_, _≤_, _<_}
 use native.Mathlib.Omega.{arith}
 use lib.Dec.{leb}
@@ -16,7 +16,7 @@ use Rattle.walk.proofs.Going.{walked-nearer}
 use Rattle.scenario.specs.declared.fill.Stage.{Stage}
 use Rattle.scenario.specs.declared.fill.Stage.the-variants.{Opening, Fields, Done}
 use Rattle.scenario.specs.declared.fill.Printing.{Printing}
-use Rattle.scenario.specs.Fill.{momentText, openingText, printed, isDone, Fill, filling, filledFrom, filledAs, opened, filled}
+use Rattle.scenario.specs.Fill.{momentText, openingText, printed, isDone, filling, filledFrom, filledAs, opened, filled}
 use Rattle.scenario.specs.Pen.{Pen, pen, penned, room, pageRoom}
 
 -- no more fills than this are to come

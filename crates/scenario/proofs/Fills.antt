@@ -14,17 +14,15 @@ use Rattle.bus.specs.declared.bus.Bus.{Bus}
 use Rattle.walk.specs.Field.{Bytes}
 use Rattle.walk.specs.Form.{formOf}
 use Rattle.walk.specs.Moments.{Now, moments, isPassed, withoutEnds, Gives, last, one}
-use Rattle.walk.specs.Walk.{before, isEnd, toGo, walked}
+use Rattle.walk.specs.Walk.{before, toGo}
 use Rattle.walk.specs.declared.form.Form.{Form}
 use Rattle.walk.specs.declared.form.Form.the-variants.{Good, BadField, TooLong}
 use Rattle.walk.specs.declared.walk.Place.{Place}
-use Rattle.walk.specs.declared.walk.Step.{Step}
 use Rattle.walk.proofs.Given.{walk-gives-others}
 use Rattle.walk.proofs.Going.{walked-nearer}
-use Rattle.scenario.specs.declared.fill.Stage.{Stage}
 use Rattle.scenario.specs.declared.fill.Stage.the-variants.{Opening, Fields, Done}
 use Rattle.scenario.specs.declared.fill.Printing.{Printing}
-use Rattle.scenario.specs.Fill.{momentText, momentsText, printed, started, isDone, Fill, filling, filledFrom, fieldsFilled, filled, Prints, finished, after}
+use Rattle.scenario.specs.Fill.{momentText, momentsText, printed, started, isDone, Fill, filling, filledFrom, filled, Prints, finished, after}
 use Rattle.scenario.specs.Lines.{formText}
 use Rattle.scenario.specs.Output.{header, output}
 use Rattle.scenario.specs.Pen.{Pen, pen, penned, room, pageRoom}

@@ -7,7 +7,6 @@ use lib.Dec.{ltb}
 use lib.ListN.{length}
 use Rattle.station.specs.Events.{Event}
 use Rattle.bus.specs.Bus.{poweredOn}
-use Rattle.bus.specs.Events.{events}
 use Rattle.bus.specs.Find.{thereIs}
 use Rattle.bus.specs.Slot.{slotRun}
 use Rattle.bus.specs.declared.bus.Bus.{Bus}
@@ -26,7 +25,7 @@ use Rattle.walk.specs.declared.walk.Moment.{Moment}
 use Rattle.walk.specs.declared.walk.Moment.the-variants.{Called, Told, Passed, Ended}
 use Rattle.scenario.specs.Fill.{momentText, momentsText}
 use Rattle.scenario.specs.Lines.{slotText, textOf, endText}
-use Rattle.scenario.specs.Output.{Printed, ran, printedAs, printedFrom, header, outputOf, output}
+use Rattle.scenario.specs.Output.{Printed, ran, printedAs, printedFrom, header, output}
 
 texts-append : (l m : List Now) → momentsText (l ++ m) ≡ momentsText l ++ momentsText m
 unfolding momentsText

@@ -7,7 +7,6 @@ use native.Mathlib.Omega.{arith}
 use borrow.Author.Tests.{ltb-true}
 use lib.Dec.{ltb}
 use lib.ListN.{length}
-use Rattle.walk.specs.declared.form.Form.{Form}
 use Rattle.walk.specs.declared.form.Form.the-variants.{Good, BadField, TooLong}
 use Rattle.walk.specs.Field.{fieldAt, isBad}
 use Rattle.walk.specs.Form.{most, formFrom, formOf}

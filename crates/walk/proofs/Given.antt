@@ -7,14 +7,12 @@ use native.Mathlib.Omega.{arith}
 use borrow.Author.Tests.{ltb-true, ltb-false, lt-ltb, le-ltb}
 use lib.Dec.{ltb}
 use lib.ListN.{length}
-use Rattle.station.specs.declared.phase.Sound.{Sound}
 use Rattle.station.specs.declared.phase.Sound.the-variants as sound
 use Rattle.bus.specs.Bus.{poweredOn, done}
 use Rattle.bus.specs.Find.{thereIs}
 use Rattle.bus.specs.Run.{runs}
 use Rattle.bus.specs.Slot.{slotHeard, slotRun}
 use Rattle.bus.specs.declared.bus.Bus.{Bus}
-use Rattle.bus.specs.declared.bus.Answer.{Answer}
 use Rattle.bus.specs.declared.find.Query.the-variants.{WasTold}
 use Rattle.bus.specs.declared.run.Stop.{Stop}
 use Rattle.walk.specs.declared.field.Field.{Field}
@@ -25,9 +23,9 @@ use Rattle.walk.specs.declared.walk.Moment.{Moment}
 use Rattle.walk.specs.declared.walk.Moment.the-variants.{Called, Told, Passed, Ended}
 use Rattle.walk.specs.declared.walk.Step.{Step}
 use Rattle.walk.specs.Field.{Bytes, fieldAt, isBad}
-use Rattle.walk.specs.Form.{formFrom, formOf}
+use Rattle.walk.specs.Form.{formOf}
 use Rattle.walk.specs.Apply.{applied}
-use Rattle.walk.specs.Walk.{before, within, slotsLeft, taskOf, aheadOf, stepped, called, came, nextAs, next, isEnd, passedBy, walked}
+use Rattle.walk.specs.Walk.{before, within, slotsLeft, taskOf, aheadOf, stepped, came, nextAs, next, isEnd, passedBy, walked}
 use Rattle.walk.specs.Moments.{Now, now, Gone, ran, goneAs, toldIn, momentsFrom, moments, isPassed, withoutEnds, Gives, last, one}
 use Rattle.walk.proofs.Fields.{Finds, next-past, found-next, found-first, not-bad}
 use Rattle.walk.proofs.Going.{goes-first, goes-here, walked-on, came-told, came-quiet}

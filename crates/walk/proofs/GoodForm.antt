@@ -12,11 +12,10 @@ use lib.ListN.{length, getD, take, drop, length-drop, take-append-drop, drop-of-
 use lib.Seq.{drop-cons, drop-drop, length-take-le}
 use Rattle.walk.specs.declared.field.Field.{Field}
 use Rattle.walk.specs.declared.field.Placed.{Placed}
-use Rattle.walk.specs.declared.form.Form.{Form}
 use Rattle.walk.specs.declared.form.Form.the-variants.{Good, TooLong}
 use Rattle.walk.specs.Field.{Bytes, byteAt, pairAt, lengthAt, noField, valueOf, fieldAt, isBad}
 use Rattle.walk.specs.Form.{most, formFrom, formOf}
-use Rattle.walk.specs.Tagged.{Item, master, slave, reply, queue, run, heard, quiet, tagOf, valueBytes, tagged, itemBytes, scenarioOf}
+use Rattle.walk.specs.Tagged.{Item, master, slave, reply, queue, run, heard, quiet, tagOf, valueBytes, itemBytes, scenarioOf}
 use Rattle.walk.proofs.Fields.{Finds, next-past, found-next, found-first, not-bad}
 use Rattle.walk.proofs.TaggedRead.{fields-good}
 
@@ -119,7 +118,7 @@ taken-bytes (suc k) [] b i = b i
 taken-bytes (suc k) (x ∷ l) b zero = b 0
 taken-bytes (suc k) (x ∷ l) b (suc i) = taken-bytes k l (λ j. b (suc j)) i
 
-dropped-bytes : (k : ℕ) (l : List ℕ) → Bytes l → Bytes (drop k l)
+pub dropped-bytes : (k : ℕ) (l : List ℕ) → Bytes l → Bytes (drop k l)
 dropped-bytes zero l b = b
 dropped-bytes (suc k) [] b = b
 dropped-bytes (suc k) (x ∷ l) b = dropped-bytes k l (λ i. b (suc i))

@@ -14,7 +14,7 @@ use Rattle.walk.specs.declared.form.Form.the-variants.{Good}
 use Rattle.walk.specs.Apply.{bytesFrom}
 use Rattle.walk.specs.Field.{byteAt, pairAt, lengthAt, valueOf, fieldAt, isBad}
 use Rattle.walk.specs.Form.{most, formFrom, formOf}
-use Rattle.walk.specs.Tagged.{Item, master, slave, reply, queue, run, heard, quiet, tagOf, valueBytes, tagged, itemBytes, scenarioOf, fieldOf, placedAt}
+use Rattle.walk.specs.Tagged.{Item, master, slave, reply, queue, run, heard, quiet, valueBytes, tagged, itemBytes, scenarioOf, fieldOf, placedAt}
 
 -- a byte behind the front
 byte-behind : (front l : List ℕ) (i j : ℕ) → j ≡ length front + i → byteAt (front ++ l) j ≡ getD l i 0

@@ -19,7 +19,7 @@ use Rattle.walk.specs.declared.field.Field.the-variants.{Master, Slave, 
 unfoldable pub bytesFrom : List ℕ → ℕ → ℕ → List ℕ
 bytesFrom s from to = cond (leb to (length s)) (cond (leb from to) (take (to - from) (drop from s)) []) []
 
--- a field that ends at `to`; a run is run slot by slot by whoever prints its lines
+-- a field that ends at `to`; a run is run by whoever walks the fields
 abbrev pub appliedAs : Field → Bus → List ℕ → ℕ → Answer
 appliedAs (Master a) b s to = attaches b a true
 appliedAs (Slave a) b s to = attaches b a false

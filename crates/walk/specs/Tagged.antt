@@ -4,7 +4,7 @@ use mathlib.Core.List.{List, [], _∷_, _++_}
 use Prim.Native.Nat.{ℕ, _+_, _/_, _%_}
 use lib.ListN.{length}
 use Rattle.walk.specs.declared.field.Field.{Field}
-use Rattle.walk.specs.declared.field.Field.the-variants.{Master, Slave, Reply, Queue, Run, Heard, Quiet, Bad}
+use Rattle.walk.specs.declared.field.Field.the-variants.{Master, Slave, Reply, Queue, Run, Heard, Quiet}
 use Rattle.walk.specs.declared.field.Placed.{Placed}
 
 pub data Item : Type 0 where

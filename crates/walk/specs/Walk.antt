@@ -11,7 +11,6 @@ use Rattle.bus.specs.Slot.{slotHeard}
 use Rattle.bus.specs.declared.bus.Bus.{Bus}
 use Rattle.bus.specs.declared.bus.Answer.{Answer}
 use Rattle.bus.specs.declared.find.Query.the-variants.{WasTold}
-use Rattle.bus.specs.declared.run.Stop.{Stop}
 use Rattle.walk.specs.declared.field.Field.{Field}
 use Rattle.walk.specs.declared.field.Field.the-variants.{Master, Slave, Reply, Queue, Run, Heard, Quiet, Bad}
 use Rattle.walk.specs.declared.walk.Place.{Place}

@@ -28,7 +28,7 @@ fn done(b: Bus) -> Answer
     }
 }
 
-// A field that ends at `to`. A run is not applied here: its caller runs it and prints as it goes.
+// A field that ends at `to`. A run is not applied here: the walk runs it, and stops where somebody is told something.
 pub fn apply(b: Bus, f: Field, s: &[u8], to: usize) -> Answer
     ensures { λ r. ⌜ r ≡ applied b f (now (s .entry)) to ⌝ }
 {

@@ -1,6 +1,6 @@
 -- `desk::run` meets its contract: each fill leaves fewer to come. Assumes nothing.
 use borrow.Author.Needs.{needs}
-use mathlib.Core.Path.{_≡_, sym, ap, _∙_}
+use mathlib.Core.Path.{sym, ap, _∙_}
 use native.Mathlib.Omega.{arith}
 use Rattle.walk.specs.Field.{Bytes}
 use Rattle.scenario.specs.Fill.{Fill}

@@ -1,6 +1,6 @@
 -- `scenario::fill::fields` meets its contract: enough turns are left for what is to go. Assumes nothing.
 use borrow.Author.Needs.{needs}
-use mathlib.Core.Path.{_≡_, sym, _∙_}
+use mathlib.Core.Path.{sym, _∙_}
 use mathlib.Core.Bool.{false}
 use native.Mathlib.Omega.{arith}
 use Rattle.walk.specs.Field.{Bytes}
