@@ -139,8 +139,7 @@ module _ (cs : List Call) (bytes : ByteCalls cs) (i : ℕ) (attached : i < attac
       by : (q : Bool) → Wins h ≡ q → (told h ≡ owns) ↔ (Wins h ≡ true)
       by true e = ((λ _. e), (λ _. in-turn h ∙ rw e))
       by false e =
-          let t : told h ≡ tellsIn (shareOf (its .address) (its .master) g) (its .replies) h = in-turn h ∙ rw e in
-          (
+          let t : told h ≡ tellsIn (shareOf (its .address) (its .master) g) (its .replies) h = in-turn h ∙ rw e in (
             (λ j. absurd (true≢false (sym (ap isOwns (sym t ∙ j)) ∙ tells-other (shareOf (its .address) (its .master) g) (its .replies) h .not-owns))),
             (λ j. absurd (false≢true (sym e ∙ j))),
           )
@@ -152,14 +151,12 @@ module _ (cs : List Call) (bytes : ByteCalls cs) (i : ℕ) (attached : i < attac
     where
       by : (q : Bool) → Wins h ≡ q → (numberIn (told h) ≡ k) ↔ Fails (its .replies) k (shareOf (its .address) (its .master) g) h
       by true e =
-          let t : told h ≡ owns = in-turn h ∙ rw e in
-          (
+          let t : told h ≡ owns = in-turn h ∙ rw e in (
             (λ j. let z : 0 ≡ k = sym (ap numberIn t) ∙ j in absurd (omega arith)),
             (λ f. absurd (reader-never (its .replies) f (before-won (momentAt bus i h) (its .address) (its .master) (g .earlier) (g .now) e))),
           )
       by false e =
-          let t : told h ≡ tellsIn (shareOf (its .address) (its .master) g) (its .replies) h = in-turn h ∙ rw e in
-          (
+          let t : told h ≡ tellsIn (shareOf (its .address) (its .master) g) (its .replies) h = in-turn h ∙ rw e in (
             (λ j. why (its .replies) (shareOf (its .address) (its .master) g) h (sym (ap numberIn t) ∙ j) l),
             (λ f. ap numberIn t ∙ then-told (its .replies) f),
           )
