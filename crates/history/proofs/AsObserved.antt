@@ -32,11 +32,10 @@ use Rattle.promises.proofs.Taken.Together.{reachable-together}
 use Rattle.history.specs.Moments.{Moment, History, nothing}
 use Rattle.history.specs.Seen.{momentAt, later, seenCall, seenCalls, seen}
 use Rattle.history.specs.Observer as observer
-use Rattle.history.proofs.Matches.{reportOf}
 use Rattle.history.proofs.Matches as matches
 use Rattle.history.proofs.Observed.{Observed, says-now, tells-now, hands-now, observed-later}
 use Rattle.history.specs.Lines.{lines, HandsOut, leftBy}
-use Rattle.history.specs.Observer.{Report}
+use Rattle.history.specs.Observer.{reportOf, Report}
 use Rattle.history.proofs.HandsOut.{lines-are, left-are}
 use Rattle.history.proofs.Shares.{none-admitted}
 

@@ -42,9 +42,9 @@ use Rattle.history.specs.Moments.{isSymbol, bySound}
 use Rattle.history.specs.Share.{Sender, owner, slave, Reader, station, asker, Time, once, again, Share, readsForAll, whichOf}
 use Rattle.history.specs.Share as share
 use Rattle.history.specs.Verdict.{verdict}
-use Rattle.history.specs.Observer.{Report, silence, owns, taken, free, given, answered, failed, failedFree, tellsOut, tellsRefused, tellsRead, tellsHanded, toOwner, tellsFirst, tellsIn, disturbed, cutShort}
+use Rattle.history.specs.Observer.{reportOf, Report, silence, owns, taken, free, given, answered, failed, failedFree, tellsOut, tellsRefused, tellsRead, tellsHanded, toOwner, tellsFirst, tellsIn, disturbed, cutShort}
 use Rattle.history.specs.Lines.{lines, partIn, askedIn, HandsOut, leftBy}
-use Rattle.history.proofs.Matches.{reportOf, Named, Holds, Matches, MatchesIn}
+use Rattle.history.proofs.Matches.{Named, Holds, Matches, MatchesIn}
 use Rattle.history.proofs.Matches as matches
 use Rattle.history.proofs.Slots.{begun}
 use Rattle.history.proofs.Verdicts.{verdict-next}

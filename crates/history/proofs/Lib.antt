@@ -1,9 +1,11 @@
 pub mod Access
 pub mod AsObserved
+pub mod AtLeastTwelve
 pub mod FailedWhen
 pub mod Generates
 pub mod HandsOut
 pub mod Headed
+pub mod HeldByCalls
 pub mod Matches
 pub mod Observed
 pub mod Sentences

@@ -11,19 +11,16 @@ use Rattle.wire.specs.declared.form.Wire.{Wire}
 use Rattle.wire.specs.declared.part.Telegram.{Telegram}
 use Rattle.wire.specs.declared.reader.Cursor.{Cursor}
 use Rattle.wire.proofs.Reached.{Reached}
-use Rattle.station.specs.Events.{numberOf}
 use Rattle.wire.specs.declared.part.Part.{Part}
 use Rattle.wire.specs.declared.part.Part.the-variants.{MasterPart, AnswerPart}
 use Rattle.station.specs.declared.phase.Attempt.{Attempt}
 use Rattle.station.specs.declared.phase.Attempt.the-variants.{First, Again}
 use Rattle.station.specs.declared.phase.Phase.{Phase}
 use Rattle.station.specs.declared.phase.Phase.the-variants.{Silent, Reading, Sending, Awaiting, Judging, Owing, Releasing}
-use Rattle.station.specs.declared.phase.Told.{Told}
-use Rattle.station.specs.declared.phase.Told.the-variants.{Silence, Owns, Taken, Failed, Free, FailedFree, Given, Answered}
 use Rattle.station.specs.declared.station.Station.{Station}
 use Rattle.station.specs.declared.station.Turn.{Turn}
 use Rattle.history.specs.Share.{Time, once, again, Sender, owner, slave, Reader, station, asker, Share, over, releases, sends, awaits, reads, judges, owes, symbolsOf, whichOf, readsOn}
-use Rattle.history.specs.Observer.{Report, silence, owns, taken, free, given, answered, failed, failedFree}
+use Rattle.history.specs.Observer.{Report, reportOf}
 use Rattle.history.proofs.Headed.{Headed}
 
 abbrev pub attempt : Time → Attempt
@@ -37,17 +34,6 @@ sentPart (slave xs) = AnswerPart
 abbrev pub readPart : Reader → Part
 readPart (station a m) = MasterPart
 readPart (asker t) = AnswerPart
-
--- what is told, with the number printed
-abbrev pub reportOf : Told → Report
-reportOf Silence = silence
-reportOf Owns = owns
-reportOf Taken = taken
-reportOf (Failed f) = failed (numberOf f)
-reportOf Free = free
-reportOf (FailedFree f) = failedFree (numberOf f)
-reportOf Given = given
-reportOf Answered = answered
 
 -- a sender has the symbols in its buffer
 abbrev pub Knows : Sender → Telegram → Type 0

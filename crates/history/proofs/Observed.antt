@@ -36,10 +36,10 @@ use Rattle.history.specs.Seen.{later}
 use Rattle.history.specs.Share.{Share, over, station, once}
 use Rattle.history.specs.Share as share
 use Rattle.history.specs.Admission.{some, marksIn, admitsAll, admittedBy}
-use Rattle.history.specs.Observer.{Report, owns, bidding, shareAfter, shareOf, saysIn, tellsIn}
+use Rattle.history.specs.Observer.{reportOf, Report, owns, bidding, shareAfter, shareOf, saysIn, tellsIn}
 use Rattle.history.specs.Observer as observer
 use Rattle.history.proofs.Access.{admittedAt, sinceAt, admitted-more, since-quiet, since-symbol, marks-quiet, marks-symbol, admitted-next}
-use Rattle.history.proofs.Matches.{reportOf, MatchesIn, Comes}
+use Rattle.history.proofs.Matches.{MatchesIn, Comes}
 use Rattle.history.proofs.Shares.{wins, none-admitted, share-next, Won, share-won}
 use Rattle.history.proofs.Slots.{moment, begun, markAfter, quiet-comes, symbol-comes, won-comes, syn-told-in, syn-matches, ready-matches, ready-held, ready-access, says-in, begun-says, begun-tells, begun-next, symbol-access, quiet-access, bids-in, admits-in}
 use Rattle.history.specs.Lines.{HandsOut}

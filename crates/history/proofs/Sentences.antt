@@ -26,13 +26,12 @@ use Rattle.history.specs.Seen.{momentAt, seen}
 use Rattle.history.specs.Share.{Time, once, again, Sender, owner, slave, Reader, station, asker, Share, readsForAll, whichOf}
 use Rattle.history.specs.Share as share
 use Rattle.history.specs.Verdict.{verdict}
-use Rattle.history.specs.Observer.{Report, silence, owns, taken, free, given, answered, failed, failedFree, tellsOut, tellsRefused, tellsRead, tellsHanded, handsOut, toOwner, tellsFirst, tellsIn, disturbed, cutShort, shareOf}
+use Rattle.history.specs.Observer.{reportOf, Report, silence, owns, taken, free, given, answered, failed, failedFree, tellsOut, tellsRefused, tellsRead, tellsHanded, handsOut, toOwner, tellsFirst, tellsIn, disturbed, cutShort, shareOf}
 use Rattle.history.specs.Observer as observer
 use Rattle.history.specs.Failed.{numberIn, Fails}
 use Rattle.history.proofs.AsObserved.{tells-as-observed}
 use Rattle.history.proofs.FailedWhen.{why, then-told, reader-never}
-use Rattle.history.proofs.Matches.{reportOf}
-use Rattle.history.proofs.Shares.{wins, before-won}
+use Rattle.history.proofs.Shares.{before-won}
 
 -- ---- only who sent its QQ is told owns
 
@@ -127,7 +126,7 @@ module _ (cs : List Call) (bytes : ByteCalls cs) (i : ℕ) (attached : i < attac
 
   -- it sends its QQ in this slot, which is the one after an AA that admits it, with a telegram waiting; and it hears its address
   abbrev Wins : Sound → Bool
-  Wins h = wins (its .address) (its .master) (g .earlier) (g .now) (momentAt bus i h)
+  Wins h = observer.wins (its .address) (its .master) g (waiting (its .outbox)) h
 
   in-turn : (h : Sound) → told h ≡ cond (Wins h) owns (tellsIn (shareOf (its .address) (its .master) g) (its .replies) h)
   unfolding observer.tells
@@ -140,8 +139,7 @@ module _ (cs : List Call) (bytes : ByteCalls cs) (i : ℕ) (attached : i < attac
       by : (q : Bool) → Wins h ≡ q → (told h ≡ owns) ↔ (Wins h ≡ true)
       by true e = ((λ _. e), (λ _. in-turn h ∙ rw e))
       by false e =
-          let t : told h ≡ tellsIn (shareOf (its .address) (its .master) g) (its .replies) h = in-turn h ∙ rw e in
-          (
+          let t : told h ≡ tellsIn (shareOf (its .address) (its .master) g) (its .replies) h = in-turn h ∙ rw e in (
             (λ j. absurd (true≢false (sym (ap isOwns (sym t ∙ j)) ∙ tells-other (shareOf (its .address) (its .master) g) (its .replies) h .not-owns))),
             (λ j. absurd (false≢true (sym e ∙ j))),
           )
@@ -153,14 +151,12 @@ module _ (cs : List Call) (bytes : ByteCalls cs) (i : ℕ) (attached : i < attac
     where
       by : (q : Bool) → Wins h ≡ q → (numberIn (told h) ≡ k) ↔ Fails (its .replies) k (shareOf (its .address) (its .master) g) h
       by true e =
-          let t : told h ≡ owns = in-turn h ∙ rw e in
-          (
+          let t : told h ≡ owns = in-turn h ∙ rw e in (
             (λ j. let z : 0 ≡ k = sym (ap numberIn t) ∙ j in absurd (omega arith)),
             (λ f. absurd (reader-never (its .replies) f (before-won (momentAt bus i h) (its .address) (its .master) (g .earlier) (g .now) e))),
           )
       by false e =
-          let t : told h ≡ tellsIn (shareOf (its .address) (its .master) g) (its .replies) h = in-turn h ∙ rw e in
-          (
+          let t : told h ≡ tellsIn (shareOf (its .address) (its .master) g) (its .replies) h = in-turn h ∙ rw e in (
             (λ j. why (its .replies) (shareOf (its .address) (its .master) g) h (sym (ap numberIn t) ∙ j) l),
             (λ f. ap numberIn t ∙ then-told (its .replies) f),
           )

@@ -12,12 +12,13 @@ use Rattle.station.specs.declared.phase.Sound.the-variants.{Quiet, Symbol}
 use Rattle.history.specs.Moments.{Moment, bySound, isSymbol}
 use Rattle.history.specs.Share.{Share, over, reads, once, station, partRead, ownSent}
 use Rattle.history.specs.Admission.{some, admitsAll, admittedBy}
-use Rattle.history.specs.Observer.{bidding, ownedBy, shareIn, shareAfter}
+use Rattle.history.specs.Observer.{ownedBy, shareIn, shareAfter}
+use Rattle.history.specs.Observer as observer
 use Rattle.history.proofs.Steps.{next, Goes, part-read-steps, own-steps}
 
--- it sends its QQ in this slot, and hears its own address
+-- the observer's word, for a slot
 abbrev pub wins : ℕ → Bool → List (List Moment) → List Moment → Moment → Bool
-wins a m earlier now x = cond (bidding (admittedBy a m earlier) now (x .waits)) (isSymbol a (x .heard)) false
+wins a m earlier now x = observer.wins a m (record { earlier = earlier; now = now }) (x .waits) (x .heard)
 
 -- before the first AA none is admitted
 pub none-admitted : (a : ℕ) (m : Bool) → admittedBy a m [] ≡ false

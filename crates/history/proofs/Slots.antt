@@ -70,10 +70,10 @@ use Rattle.history.specs.Share as share
 use Rattle.history.specs.Verdict.{verdict}
 use Rattle.history.specs.Share.{Time, once, again, Sender, owner, slave, Reader, station, asker, Share, symbolsOf, toAll, whichOf, zzIn, pbIn, sbIn, wanted, forIt, readsOn, readsForAll, ends, fails, ifMore, byEnd, handed, readSoFar, readEnded, ownSent}
 use Rattle.history.specs.Admission.{some}
-use Rattle.history.specs.Observer.{Report, silence, owns, saysIn, tellsIn, tellsOut, tellsRefused, tellsRead, tellsHanded, toOwner}
+use Rattle.history.specs.Observer.{reportOf, Report, silence, owns, saysIn, tellsIn, tellsOut, tellsRefused, tellsRead, tellsHanded, toOwner}
 use Rattle.history.specs.Observer as observer
 use Rattle.history.proofs.Headed.{Headed, whole-headed, long-headed, answer-head}
-use Rattle.history.proofs.Matches.{attempt, sentPart, readPart, reportOf, Knows, Loaded, Named, HeadOf, Holds, Matches, MatchesIn, Comes}
+use Rattle.history.proofs.Matches.{attempt, sentPart, readPart, Knows, Loaded, Named, HeadOf, Holds, Matches, MatchesIn, Comes}
 use Rattle.history.proofs.Matches as matches
 use Rattle.history.proofs.Verdicts.{verdict-next}
 use Rattle.history.proofs.Steps.{out, rereads, nextRead, next, answer-sent-steps}

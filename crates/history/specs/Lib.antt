@@ -5,5 +5,6 @@ pub mod Admission
 pub mod Observer
 pub mod Lines
 pub mod Failed
+pub mod Held
 pub mod Generator
 pub mod Seen

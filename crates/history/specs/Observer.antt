@@ -8,9 +8,12 @@ use Rattle.wire.specs.Form.{answerForm}
 use Rattle.wire.specs.declared.part.Telegram.{Telegram}
 use Rattle.wire.specs.declared.reader.Outcome.{Outcome}
 use Rattle.wire.specs.declared.reader.Outcome.the-variants.{More, Cut, NoMaster, Unusable, TooLong, BrokenPair, Whole}
+use Rattle.station.specs.Events.{numberOf}
 use Rattle.station.specs.Replies.{answerFor}
 use Rattle.station.specs.declared.phase.Sound.{Sound}
 use Rattle.station.specs.declared.phase.Sound.the-variants.{Quiet, Symbol}
+use Rattle.station.specs.declared.phase.Told.{Told}
+use Rattle.station.specs.declared.phase.Told.the-variants.{Silence, Owns, Taken, Failed, Free, FailedFree, Given, Answered}
 use Rattle.station.specs.declared.replies.ReplyBook.{ReplyBook}
 use Rattle.history.specs.Moments.{Moment, bySound, isSymbol, History}
 use Rattle.history.specs.Verdict.{verdict}
@@ -23,6 +26,17 @@ pub data Report : Type 0 where
   -- failed, with its number; and whether the station leaves the wire in that slot, free
   failed : ℕ → Report
   failedFree : ℕ → Report
+
+-- what is told, with the number printed
+abbrev pub reportOf : Told → Report
+reportOf Silence = silence
+reportOf Owns = owns
+reportOf Taken = taken
+reportOf (Failed f) = failed (numberOf f)
+reportOf Free = free
+reportOf (FailedFree f) = failedFree (numberOf f)
+reportOf Given = given
+reportOf Answered = answered
 
 -- ---- who it is, and where it stands
 
@@ -137,7 +151,11 @@ tellsIn (judges r n xs matched just) book h =
     (cond (eqb b 0xFF) (toOwner r (tellsRefused n)) (cond (eqb b 0xAA) (toOwner r (failedFree 4)) (toOwner r (failed 2)))))
 tellsIn (owes pb sb) book h = tellsFirst (answerForm (answerFor book pb sb)) h
 
+-- it sends its QQ in this slot, and hears its own address: it owns the wire
+abbrev pub wins : ℕ → Bool → History → List Telegram → Sound → Bool
+wins a m h waits heard = cond (bidding (admittedBy a m (h .earlier)) (h .now) waits) (isSymbol a heard) false
+
 -- what it is told in a slot that all hear so
 unfoldable pub tells : ℕ → Bool → History → List Telegram → ReplyBook → Sound → Report
 tells a m h waits book heard =
-    cond (cond (bidding (admittedBy a m (h .earlier)) (h .now) waits) (isSymbol a heard) false) owns (tellsIn (shareOf a m h) book heard)
+    cond (wins a m h waits heard) owns (tellsIn (shareOf a m h) book heard)
