@@ -1,5 +1,5 @@
 -- A station's admission, its mark and its count since AA, from what was heard (01, "Admission"). Assumes nothing.
-use mathlib.Core.Path.{_≡_, refl, sym, ap, ap₂, _∙_}
+use mathlib.Core.Path.{_≡_, refl, ap, _∙_}
 use mathlib.Core.Bool.{Bool, true, false, cond}
 use mathlib.Core.List.{List, [], _∷_, _++_, append-nil}
 use Prim.Native.Nat.{ℕ, zero, suc, _+_}
@@ -7,14 +7,12 @@ use native.Mathlib.Omega.{arith}
 use borrow.Author.Tests.{ne-eqb}
 use lib.Dec.{eqb}
 use lib.ListN.{length}
-use Rattle.address.specs.Half.{lowHalf}
 use Rattle.station.specs.Admission.{admitsAfter, sinceNext}
 use Rattle.station.specs.declared.phase.Since.{Since}
 use Rattle.station.specs.declared.phase.Since.the-variants.{Nothing, OneSymbol, ManyOrNoSyn}
 use Rattle.station.specs.declared.phase.Sound.{Sound}
 use Rattle.station.specs.declared.phase.Sound.the-variants.{Quiet, Symbol}
-use Rattle.wire.specs.declared.part.Telegram.{Telegram}
-use Rattle.history.specs.Moments.{Moment, bySound, isSymbol, symbolsIn}
+use Rattle.history.specs.Moments.{Moment, bySound, symbolsIn}
 use Rattle.history.specs.Admission.{some, marksIn, admitsAll, admittedBy}
 use Rattle.history.specs.Observer.{bidding}
 use Rattle.history.proofs.Slots.{markAfter}

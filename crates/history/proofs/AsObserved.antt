@@ -1,7 +1,7 @@
 -- Demand 2 by what is heard: after any calls from power-on, what every attached station says in the next slot, and what it is
 -- told in it, whatever is heard, is what the observer says (01, "A slot" to "Release"). Assumes nothing.
 use mathlib.Core.Path.{_≡_, refl, sym, ap, ap₂, subst, subst₂, _∙_}
-use mathlib.Core.Bool.{Bool, true, false, true≢false}
+use mathlib.Core.Bool.{Bool, false, true≢false}
 use mathlib.Core.List.{List, [], _∷_}
 use Prim.Native.Nat.{ℕ, _<_}
 use native.Mathlib.Omega.{arith}
@@ -11,7 +11,6 @@ use Rattle.station.specs.Events.{tells}
 use Rattle.station.specs.Outbox.{waiting}
 use Rattle.station.specs.declared.outbox.Outbox.{Outbox}
 use Rattle.station.specs.Station.{fresh, ready, says}
-use Rattle.station.specs.Hear.{hears}
 use Rattle.station.specs.declared.phase.Sound.{Sound}
 use Rattle.station.specs.declared.station.Station.{Station}
 use Rattle.station.specs.declared.station.Turn.{Turn}
@@ -21,15 +20,15 @@ use Rattle.bus.specs.declared.bus.Answer.{Answer}
 use Rattle.bus.specs.Bus.{poweredOn, attachedTo, turnAt, withTurn}
 use Rattle.bus.specs.Attach.{newcomer}
 use Rattle.bus.specs.Slot.{saidBy, spoken, turned, slotHeard, slotRun}
-use Rattle.promises.specs.Calls.{Call, attach, queue, reply, slot, heard, afterCall, afterCalls, ByteCall, ByteCalls, Reachable, by-calls}
-use Rattle.promises.specs.Fit.{stationAt, Fit}
+use Rattle.promises.specs.Calls.{Call, attach, queue, reply, slot, heard, afterCall, afterCalls, ByteCalls, Reachable, by-calls}
+use Rattle.promises.specs.Fit.{stationAt}
 use Rattle.promises.proofs.Shared.Arrays.{answer-full}
 use Rattle.promises.proofs.Shared.FitKept.{reachable-fit}
 use Rattle.promises.proofs.Shared.Outgoing.{reachable-more}
 use Rattle.promises.proofs.Shared.Seats.{Did, refused, attached, queued, replied, withNewcomer, holdingMore, answeringMore, attached-turn, turn-same, turn-other, attached-before, attached-newcomer, newcomer-seat, other-seat, did-attach, did-queue, did-reply, attached-slot, slot-seat}
 use Rattle.promises.proofs.Shared.Stations.{reachable-sane}
 use Rattle.promises.proofs.Taken.Together.{reachable-together}
-use Rattle.history.specs.Moments.{Moment, History, nothing}
+use Rattle.history.specs.Moments.{History, nothing}
 use Rattle.history.specs.Seen.{momentAt, later, seenCall, seenCalls, seen}
 use Rattle.history.specs.Observer as observer
 use Rattle.history.proofs.Matches as matches

@@ -1,11 +1,11 @@
 -- The twelve-slot clause of demand 3 with twelve slots or more. Assumes nothing.
-use mathlib.Core.Path.{_≡_, refl, sym, ap, subst, _∙_}
+use mathlib.Core.Path.{_≡_, refl, sym, ap, subst}
 use mathlib.Core.List.{List, [], _∷_, _++_}
 use Prim.Native.Nat.{ℕ, zero, suc, _+_, _≤_}
 use native.Mathlib.Omega.{arith}
 use Rattle.bus.specs.declared.bus.Bus.{Bus}
 use Rattle.promises.specs.Calls.{Call, attach, queue, reply, slot, heard, afterCall, afterCalls, Reachable}
-use Rattle.promises.specs.Contest.{SynHeardIn, Between, queued, replied, Undisturbed, by-all, between, Each, Contends, TheLeast, OwnsInOneOf, this-slot, later}
+use Rattle.promises.specs.Contest.{SynHeardIn, Between, Undisturbed, by-all, between, Each, Contends, TheLeast, OwnsInOneOf, this-slot, later}
 use Rattle.promises.specs.Slots.{slotsIn}
 use Rattle.promises.proofs.TheLeast.{least-rank-owns-by-the-twelfth}
 

@@ -1,17 +1,14 @@
 -- Each failed number exactly when (01, "Sending", "Reading", "Acknowledgement"). Assumes nothing.
-use mathlib.Core.Path.{_≡_, refl, sym, ap, subst, _∙_}
-use mathlib.Core.Logic.{_≢_, _↔_}
+use mathlib.Core.Path.{_≡_, refl, subst, _∙_}
 use mathlib.Core.Bool.{Bool, true, false, cond}
 use mathlib.Core.List.{List, [], _∷_, _++_}
-use Prim.Native.Nat.{ℕ, _≤_, _<_}
+use Prim.Native.Nat.{ℕ, _≤_}
 use native.Mathlib.Omega.{arith}
-use borrow.Author.Tests.{eqb-true, eqb-false, eq-eqb, ne-eqb}
+use borrow.Author.Tests.{eqb-true, eqb-false, ne-eqb}
 use lib.Dec.{eqb, ltb, leb}
 use lib.ListN.{length}
 use Rattle.wire.specs.Form.{answerForm}
-use Rattle.wire.specs.declared.part.Part.{Part}
 use Rattle.wire.specs.declared.part.Part.the-variants.{MasterPart, AnswerPart}
-use Rattle.wire.specs.declared.part.Telegram.{Telegram}
 use Rattle.wire.specs.declared.reader.Outcome.{Outcome}
 use Rattle.wire.specs.declared.reader.Outcome.the-variants.{More, Cut, NoMaster, Unusable, TooLong, BrokenPair, Whole}
 use Rattle.wire.proofs.SymbolKind.{clash}
@@ -19,13 +16,13 @@ use Rattle.station.specs.Replies.{answerFor}
 use Rattle.station.specs.declared.phase.Sound.{Sound}
 use Rattle.station.specs.declared.phase.Sound.the-variants.{Quiet, Symbol}
 use Rattle.station.specs.declared.replies.ReplyBook.{ReplyBook}
-use Rattle.history.specs.Moments.{Moment, isSymbol, History}
-use Rattle.history.specs.Share.{Time, once, again, Sender, owner, slave, Reader, station, asker, Share, readsForAll, whichOf}
+use Rattle.history.specs.Moments.{isSymbol}
+use Rattle.history.specs.Share.{Time, once, again, Sender, owner, slave, Reader, station, asker, Share}
 use Rattle.history.specs.Share as share
-use Rattle.history.specs.Verdict.{Plainly, bytes, waits, broken, unexpanded, afterNn, fromNn, verdict}
-use Rattle.history.specs.Observer.{Report, silence, owns, taken, free, given, answered, failed, failedFree, tellsOut, tellsRefused, tellsRead, tellsHanded, toOwner, tellsFirst, tellsIn, cutShort}
+use Rattle.history.specs.Verdict.{Plainly, bytes, waits, broken, unexpanded, afterNn, verdict}
+use Rattle.history.specs.Observer.{silence, taken, given, answered, failed, failedFree, tellsOut, tellsRefused, tellsRead, tellsFirst, tellsIn, cutShort}
 use Rattle.history.specs.Observer as observer
-use Rattle.history.specs.Failed.{numberIn, Another, Fails, disturbed, disturbed-first, no-acknowledgement, answer-not-acknowledged, wrong-taken, twice-refused, answer-twice-refused, syn-heard, syn-in-answer, syn-after-answer, pair-broken}
+use Rattle.history.specs.Failed.{numberIn, Fails, disturbed, disturbed-first, no-acknowledgement, answer-not-acknowledged, wrong-taken, twice-refused, answer-twice-refused, syn-heard, syn-in-answer, syn-after-answer, pair-broken}
 
 -- what an answer can come to
 data InAnswer : Outcome → Type 0 where

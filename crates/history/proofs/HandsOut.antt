@@ -1,6 +1,6 @@
 -- What a station hands out in a slot is what it heard, and its lines are those of its report. Assumes nothing.
-use mathlib.Core.Path.{_≡_, refl, sym, ap, ap₂, subst, _∙_}
-use mathlib.Core.Bool.{Bool, true, false, cond, true≢false, false≢true}
+use mathlib.Core.Path.{_≡_, refl, sym, ap, ap₂, _∙_}
+use mathlib.Core.Bool.{Bool, true, false, cond, true≢false}
 use mathlib.Core.List.{List, [], _∷_, _++_}
 use Prim.Native.Nat.{ℕ}
 use borrow.Author.Tests.{ne-eqb}
@@ -19,31 +19,31 @@ use Rattle.wire.specs.declared.reader.Outcome.the-variants.{More, Cut, NoMaster
 use Rattle.wire.proofs.OneMore.{step-whole, whole-form}
 use Rattle.wire.proofs.Reached.{Reached, reached-so-far}
 use Rattle.wire.proofs.SymbolKind.{clash, kind-syn}
-use Rattle.station.specs.Events.{Event, eventsAs}
+use Rattle.station.specs.Events.{eventsAs}
 use Rattle.station.specs.Hear.{hears}
-use Rattle.station.specs.Outbox.{waiting, oldestOf}
+use Rattle.station.specs.Outbox.{waiting}
 use Rattle.station.specs.Replies.{answerFor}
 use Rattle.station.specs.declared.outbox.Outbox.{Outbox}
 use Rattle.wire.specs.declared.part.Part.{Part}
 use Rattle.station.specs.declared.phase.Attempt.{Attempt}
 use Rattle.station.specs.declared.phase.Phase.{Phase}
-use Rattle.station.specs.declared.phase.Phase.the-variants.{Silent, Reading, Sending, Awaiting, Judging, Owing, Releasing}
+use Rattle.station.specs.declared.phase.Phase.the-variants.{Reading, Judging, Owing}
 use Rattle.station.specs.declared.phase.Sound.{Sound}
 use Rattle.station.specs.declared.phase.Sound.the-variants.{Quiet, Symbol}
 use Rattle.station.specs.declared.phase.Told.{Told}
 use Rattle.station.specs.declared.phase.Told.the-variants.{Silence, Owns, Taken, Failed, Free, FailedFree, Given, Answered}
 use Rattle.station.specs.declared.replies.ReplyBook.{ReplyBook}
 use Rattle.station.specs.declared.station.Station.{Station}
-use Rattle.station.proofs.Aa.{NoSyn, quiet, symbol}
+use Rattle.station.proofs.Aa.{NoSyn, symbol}
 use Rattle.station.proofs.Turned.{outboxAfter}
 use Rattle.station.proofs.Waiting.{Kept, dropped-rest, dropped-none}
 use Rattle.promises.proofs.Shared.PartAfter.{PartAfter, is-oldest, is-read, reading-kept, silent-kept, sending-kept, awaiting-kept, judging-kept, owing-kept, releasing-kept, part-after}
-use Rattle.history.specs.Moments.{isSymbol, bySound}
+use Rattle.history.specs.Moments.{isSymbol}
 use Rattle.history.specs.Share.{Sender, owner, slave, Reader, station, asker, Time, once, again, Share, readsForAll, whichOf}
 use Rattle.history.specs.Share as share
 use Rattle.history.specs.Verdict.{verdict}
 use Rattle.history.specs.Observer.{reportOf, Report, silence, owns, taken, free, given, answered, failed, failedFree, tellsOut, tellsRefused, tellsRead, tellsHanded, toOwner, tellsFirst, tellsIn, disturbed, cutShort}
-use Rattle.history.specs.Lines.{lines, partIn, askedIn, HandsOut, leftBy}
+use Rattle.history.specs.Lines.{lines, HandsOut, leftBy}
 use Rattle.history.proofs.Matches.{Named, Holds, Matches, MatchesIn}
 use Rattle.history.proofs.Matches as matches
 use Rattle.history.proofs.Slots.{begun}

@@ -4,13 +4,12 @@ use mathlib.Core.Bool.{Bool, true, false, cond}
 use mathlib.Core.List.{List, [], _∷_, _++_}
 use Prim.Native.Nat.{ℕ, _+_, _≤_}
 use native.Mathlib.Omega.{arith}
-use lib.Dec.{eqb, ltb}
-use lib.ListN.{length, getD, length-append}
+use lib.Dec.{ltb}
+use lib.ListN.{length}
 use Rattle.address.specs.Master.{isMaster}
 use Rattle.wire.specs.Form.{covered, headOf}
 use Rattle.wire.specs.Pair.{undo}
 use Rattle.wire.specs.Reader.{more, ended, readQq, readNn, readByte, dataAs, readData, crcAs, readCrc, readHead, readAt, readPlace, readAs, readOne}
-use Rattle.wire.specs.declared.part.Part.{Part}
 use Rattle.wire.specs.declared.part.Part.the-variants.{MasterPart, AnswerPart}
 use Rattle.wire.specs.Symbol.{kindOf, isEscape, isCount}
 use Rattle.wire.specs.declared.pair.Undone.{Undone}
@@ -20,7 +19,7 @@ use Rattle.wire.specs.declared.reader.Cursor.{Cursor}
 use Rattle.wire.specs.declared.reader.Place.{Place}
 use Rattle.wire.specs.declared.reader.Place.the-variants.{Qq, Zz, Pb, Sb, Nn, Data, Crc}
 use Rattle.wire.specs.declared.reader.Outcome.{Outcome}
-use Rattle.wire.specs.declared.reader.Outcome.the-variants.{More, Cut, NoMaster, Unusable, TooLong, BrokenPair, Whole}
+use Rattle.wire.specs.declared.reader.Outcome.the-variants.{Cut, NoMaster, Unusable, TooLong, BrokenPair}
 use Rattle.wire.specs.declared.reader.Step.{Step}
 use Rattle.wire.specs.declared.symbol.Kind.{Kind}
 use Rattle.wire.specs.declared.symbol.Kind.the-variants.{Syn, Escape, Count, Plain}

@@ -1,7 +1,7 @@
 -- Which telegrams a station holds, oldest first, is what the calls brought and the free lines let go. Assumes nothing.
 use mathlib.Core.Path.{_≡_, refl, sym, ap, subst, _∙_}
 use mathlib.Core.Logic.{_≢_}
-use mathlib.Core.Bool.{Bool, true, false, cond, true≢false, false≢true}
+use mathlib.Core.Bool.{Bool, true, false, cond, false≢true}
 use mathlib.Core.List.{List, [], _∷_, _++_}
 use Prim.Native.Nat.{ℕ, _<_}
 use native.Mathlib.Omega.{arith}
@@ -11,7 +11,6 @@ use lib.Dec.{eqb}
 use Rattle.wire.specs.declared.part.Telegram.{Telegram}
 use Rattle.station.specs.Outbox.{waiting}
 use Rattle.station.specs.declared.phase.Sound.{Sound}
-use Rattle.station.specs.declared.station.Station.{Station}
 use Rattle.station.specs.declared.station.Turn.{Turn}
 use Rattle.bus.specs.declared.bus.Bus.{Bus}
 use Rattle.bus.specs.declared.bus.Answer.{Answer}
@@ -20,7 +19,7 @@ use Rattle.bus.specs.declared.refusal.Verdict.the-variants.{Done, Refused}
 use Rattle.bus.specs.Bus.{poweredOn, attachedTo, turnAt, withTurn}
 use Rattle.bus.specs.Conditions.{MasterAt}
 use Rattle.bus.specs.Slot.{spoken, slotHeard, slotRun}
-use Rattle.bus.proofs.DoneChanges.{OneTurn, Queued, queue-done}
+use Rattle.bus.proofs.DoneChanges.{Queued, queue-done}
 use Rattle.bus.proofs.Reflects.{first-holds}
 use Rattle.promises.specs.Accepted.{telegramOf}
 use Rattle.promises.specs.Calls.{Call, attach, queue, reply, slot, heard, afterCall, afterCalls, Reachable, by-calls}
@@ -29,7 +28,7 @@ use Rattle.promises.specs.Slots.{verdictOn}
 use Rattle.promises.proofs.AcceptedHeld.{queued-waits}
 use Rattle.promises.proofs.Shared.FitKept.{reachable-fit, one-address}
 use Rattle.promises.proofs.Refused.{refused-changes-nothing}
-use Rattle.promises.proofs.Shared.Seats.{Did, refused, attached, queued, replied, answeringMore, turn-same, turn-other, attached-before, other-seat, did-attach, did-reply}
+use Rattle.promises.proofs.Shared.Seats.{Did, refused, attached, replied, answeringMore, turn-same, turn-other, attached-before, other-seat, did-attach, did-reply}
 use Rattle.history.specs.Held.{isDone, isSource, heldAfter}
 use Rattle.history.specs.Lines.{leftBy}
 use Rattle.history.specs.Observer.{Report, reportOf}

@@ -4,14 +4,12 @@ use mathlib.Core.Path.{_≡_, refl, sym, ap, ap₂, subst, subst₂, _∙_}
 use mathlib.Core.Bool.{Bool, true, false, cond, true≢false, false≢true}
 use mathlib.Core.List.{List, [], _∷_, _++_}
 use Prim.Native.Nat.{ℕ}
-use borrow.Author.Tests.{eq-eqb, ne-eqb, eqb-true}
+use borrow.Author.Tests.{eq-eqb, ne-eqb}
 use lib.Dec.{eqb}
 use Rattle.address.specs.Master.{isMaster}
 use Rattle.address.proofs.Masters.{master-no-other-use}
 use Rattle.wire.specs.Reading.{Sixteen}
-use Rattle.wire.specs.Symbol.{kindOf}
 use Rattle.wire.specs.declared.part.Telegram.{Telegram}
-use Rattle.wire.specs.declared.symbol.Kind.the-variants.{Syn}
 use Rattle.wire.proofs.SymbolKind.{kind-syn}
 use Rattle.station.specs.Admission.{admitsAfter, sinceNext, bids}
 use Rattle.station.specs.Hear.{hears}
@@ -23,24 +21,23 @@ use Rattle.station.specs.declared.phase.Sound.{Sound}
 use Rattle.station.specs.declared.phase.Sound.the-variants.{Quiet, Symbol}
 use Rattle.station.specs.declared.replies.ReplyBook.{ReplyBook}
 use Rattle.station.specs.declared.station.Station.{Station}
-use Rattle.station.specs.declared.station.Turn.{Turn}
-use Rattle.station.proofs.Aa.{IsSyn, aa, NoSyn, quiet, symbol, by-sound}
+use Rattle.station.proofs.Aa.{IsSyn, aa, NoSyn, symbol, by-sound}
 use Rattle.station.proofs.AfterSyn.{after-syn}
 use Rattle.station.proofs.Frame.{ready-lasting, ready-outbox, hears-lasting, admission-over}
 use Rattle.station.proofs.Possible.{Possible, ready-possible}
 use Rattle.station.proofs.Waiting.{Kept, oldest-first}
 use Rattle.promises.proofs.Shared.Outgoing.{Outgoing, AllOut}
-use Rattle.laws.proofs.FirstIs.{Every, none, next}
-use Rattle.history.specs.Moments.{Moment, isSymbol, History, nothing, closed, extended}
+use Rattle.laws.proofs.FirstIs.{Every, next}
+use Rattle.history.specs.Moments.{Moment, History, closed, extended}
 use Rattle.history.specs.Seen.{later}
-use Rattle.history.specs.Share.{Share, over, station, once}
+use Rattle.history.specs.Share.{Share, station, once}
 use Rattle.history.specs.Share as share
-use Rattle.history.specs.Admission.{some, marksIn, admitsAll, admittedBy}
-use Rattle.history.specs.Observer.{reportOf, Report, owns, bidding, shareAfter, shareOf, saysIn, tellsIn}
+use Rattle.history.specs.Admission.{some, marksIn, admittedBy}
+use Rattle.history.specs.Observer.{reportOf, Report, owns, bidding, shareOf, saysIn, tellsIn}
 use Rattle.history.specs.Observer as observer
 use Rattle.history.proofs.Access.{admittedAt, sinceAt, admitted-more, since-quiet, since-symbol, marks-quiet, marks-symbol, admitted-next}
 use Rattle.history.proofs.Matches.{MatchesIn, Comes}
-use Rattle.history.proofs.Shares.{wins, none-admitted, share-next, Won, share-won}
+use Rattle.history.proofs.Shares.{wins, share-next, share-won}
 use Rattle.history.proofs.Slots.{moment, begun, markAfter, quiet-comes, symbol-comes, won-comes, syn-told-in, syn-matches, ready-matches, ready-held, ready-access, says-in, begun-says, begun-tells, begun-next, symbol-access, quiet-access, bids-in, admits-in}
 use Rattle.history.specs.Lines.{HandsOut}
 use Rattle.history.proofs.HandsOut.{none-syn, none-owns, begun-hands, hands}

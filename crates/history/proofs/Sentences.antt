@@ -1,6 +1,6 @@
 -- Sentences of 01 from what is heard, after any calls from power-on, for every attached station and whatever all hear in the next
 -- slot: who owns the wire, and each failed number, exactly when. Assumes nothing.
-use mathlib.Core.Path.{_≡_, refl, sym, ap, subst, _∙_}
+use mathlib.Core.Path.{_≡_, refl, sym, ap, _∙_}
 use mathlib.Core.Logic.{_↔_}
 use mathlib.Core.Bool.{Bool, true, false, cond, true≢false, false≢true}
 use mathlib.Core.List.{List, [], _∷_, _++_}
@@ -21,12 +21,12 @@ use Rattle.bus.specs.Bus.{poweredOn, attachedTo, turnAt}
 use Rattle.bus.specs.Slot.{slotHeard}
 use Rattle.promises.specs.Calls.{Call, afterCalls, ByteCalls}
 use Rattle.promises.specs.Fit.{stationAt}
-use Rattle.history.specs.Moments.{Moment, isSymbol, History}
+use Rattle.history.specs.Moments.{isSymbol, History}
 use Rattle.history.specs.Seen.{momentAt, seen}
 use Rattle.history.specs.Share.{Time, once, again, Sender, owner, slave, Reader, station, asker, Share, readsForAll, whichOf}
 use Rattle.history.specs.Share as share
 use Rattle.history.specs.Verdict.{verdict}
-use Rattle.history.specs.Observer.{reportOf, Report, silence, owns, taken, free, given, answered, failed, failedFree, tellsOut, tellsRefused, tellsRead, tellsHanded, handsOut, toOwner, tellsFirst, tellsIn, disturbed, cutShort, shareOf}
+use Rattle.history.specs.Observer.{reportOf, Report, silence, owns, taken, free, given, answered, failed, failedFree, tellsOut, tellsRefused, tellsRead, handsOut, toOwner, tellsFirst, tellsIn, disturbed, cutShort, shareOf}
 use Rattle.history.specs.Observer as observer
 use Rattle.history.specs.Failed.{numberIn, Fails}
 use Rattle.history.proofs.AsObserved.{tells-as-observed}

@@ -5,14 +5,13 @@ use mathlib.Core.Bool.{Bool, true, false, cond, false≢true}
 use mathlib.Core.List.{List, [], _∷_, _++_}
 use Prim.Native.Nat.{ℕ}
 use borrow.Author.Tests.{eqb-true}
-use lib.Dec.{eqb}
 use Rattle.wire.specs.declared.part.Telegram.{Telegram}
 use Rattle.station.specs.declared.phase.Sound.{Sound}
 use Rattle.station.specs.declared.phase.Sound.the-variants.{Quiet, Symbol}
-use Rattle.history.specs.Moments.{Moment, bySound, isSymbol}
-use Rattle.history.specs.Share.{Share, over, reads, once, station, partRead, ownSent}
-use Rattle.history.specs.Admission.{some, admitsAll, admittedBy}
-use Rattle.history.specs.Observer.{ownedBy, shareIn, shareAfter}
+use Rattle.history.specs.Moments.{Moment, isSymbol}
+use Rattle.history.specs.Share.{Share, reads, once, station, partRead, ownSent}
+use Rattle.history.specs.Admission.{some, admittedBy}
+use Rattle.history.specs.Observer.{ownedBy, shareAfter}
 use Rattle.history.specs.Observer as observer
 use Rattle.history.proofs.Steps.{next, Goes, part-read-steps, own-steps}
 

@@ -1,11 +1,11 @@
 -- One slot of one station, phase by phase, in the words of its share. Only this file looks into the station's definitions.
 -- Assumes nothing.
 use mathlib.Core.Path.{_≡_, refl, sym, ap, subst, subst₂, _∙_}
-use mathlib.Core.Bool.{Bool, true, false, not, cond, _||_, true≢false, false≢true}
+use mathlib.Core.Bool.{Bool, true, false, not, cond, _||_, false≢true}
 use mathlib.Core.List.{List, [], _∷_, _++_, append-assoc}
-use Prim.Native.Nat.{ℕ, _+_, _≤_, _<_}
+use Prim.Native.Nat.{ℕ, _+_, _≤_}
 use native.Mathlib.Omega.{arith}
-use borrow.Author.Tests.{eqb-true, eqb-false, eq-eqb, ne-eqb, lt-ltb}
+use borrow.Author.Tests.{eqb-true, eq-eqb, ne-eqb, lt-ltb}
 use lib.Dec.{eqb, ltb}
 use lib.ListN.{length, getD, length-append}
 use Rattle.address.specs.Master.{isMaster, slaveOf}
@@ -13,7 +13,7 @@ use Rattle.address.specs.Half.{lowHalf}
 use Rattle.address.specs.Role as address
 use Rattle.address.specs.declared.Role.the-variants.{Master, Slave, Broadcast, Never}
 use Rattle.address.proofs.Masters.{master-no-other-use}
-use Rattle.wire.specs.Form.{room, covered, form, holding, telegramForm, answerForm}
+use Rattle.wire.specs.Form.{covered, form, holding, telegramForm, answerForm}
 use Rattle.wire.specs.Reader.{readOne, masterStart, answerStart, startOf}
 use Rattle.wire.specs.Reading.{NoSyn, Sixteen, formOf}
 use Rattle.wire.specs.declared.part.Part.{Part}
@@ -52,7 +52,7 @@ use Rattle.station.specs.declared.phase.Phase.the-variants.{Silent, Reading, Se
 use Rattle.station.specs.declared.phase.Failure.{Failure}
 use Rattle.station.specs.declared.phase.Failure.the-variants.{Disturbed, WrongAck, TwiceNak, SynHeard, PairBroken}
 use Rattle.station.specs.declared.phase.Told.{Told}
-use Rattle.station.specs.declared.phase.Told.the-variants.{Silence, Owns, Taken, Failed, Free, FailedFree, Given, Answered}
+use Rattle.station.specs.declared.phase.Told.the-variants.{Silence, Taken, Failed, Free, FailedFree, Given, Answered}
 use Rattle.station.specs.declared.phase.Sound.{Sound}
 use Rattle.station.specs.declared.phase.Sound.the-variants.{Quiet, Symbol}
 use Rattle.station.specs.declared.replies.ReplyBook.{ReplyBook}
@@ -68,12 +68,12 @@ use Rattle.promises.proofs.Taken.SenderHeard.{due-is, sent-last, sent-more}
 use Rattle.history.specs.Moments.{Moment, isSymbol}
 use Rattle.history.specs.Share as share
 use Rattle.history.specs.Verdict.{verdict}
-use Rattle.history.specs.Share.{Time, once, again, Sender, owner, slave, Reader, station, asker, Share, symbolsOf, toAll, whichOf, zzIn, pbIn, sbIn, wanted, forIt, readsOn, readsForAll, ends, fails, ifMore, byEnd, handed, readSoFar, readEnded, ownSent}
+use Rattle.history.specs.Share.{Time, once, again, Sender, owner, slave, Reader, station, asker, Share, symbolsOf, toAll, whichOf, zzIn, pbIn, sbIn, forIt, readsOn, ends, fails, ifMore, handed, readSoFar, readEnded, ownSent}
 use Rattle.history.specs.Admission.{some}
 use Rattle.history.specs.Observer.{reportOf, Report, silence, owns, saysIn, tellsIn, tellsOut, tellsRefused, tellsRead, tellsHanded, toOwner}
 use Rattle.history.specs.Observer as observer
-use Rattle.history.proofs.Headed.{Headed, whole-headed, long-headed, answer-head}
-use Rattle.history.proofs.Matches.{attempt, sentPart, readPart, Knows, Loaded, Named, HeadOf, Holds, Matches, MatchesIn, Comes}
+use Rattle.history.proofs.Headed.{whole-headed, long-headed, answer-head}
+use Rattle.history.proofs.Matches.{attempt, sentPart, readPart, Loaded, Named, HeadOf, Holds, Matches, MatchesIn, Comes}
 use Rattle.history.proofs.Matches as matches
 use Rattle.history.proofs.Verdicts.{verdict-next}
 use Rattle.history.proofs.Steps.{out, rereads, nextRead, next, answer-sent-steps}

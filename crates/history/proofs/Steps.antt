@@ -1,12 +1,11 @@
 -- One slot more, not AA: what it makes of a station's share (01, "Sending" to "Release"). Assumes nothing.
-use mathlib.Core.Path.{_≡_, refl, sym, ap, _∙_}
+use mathlib.Core.Path.{_≡_, refl, sym, _∙_}
 use mathlib.Core.Bool.{Bool, true, false, cond, true≢false}
 use mathlib.Core.List.{List, [], _∷_, _++_}
 use Prim.Native.Nat.{ℕ}
 use lib.Dec.{eqb}
 use Rattle.address.specs.Master.{isMaster}
 use Rattle.wire.specs.Form.{telegramForm, answerForm}
-use Rattle.wire.specs.declared.part.Part.{Part}
 use Rattle.wire.specs.declared.part.Telegram.{Telegram}
 use Rattle.wire.specs.declared.reader.Outcome.{Outcome}
 use Rattle.wire.specs.declared.reader.Outcome.the-variants.{More, Cut, NoMaster, Unusable, TooLong, BrokenPair, Whole}
@@ -15,7 +14,7 @@ use Rattle.station.specs.declared.phase.Sound.{Sound}
 use Rattle.station.specs.declared.phase.Sound.the-variants.{Quiet, Symbol}
 use Rattle.history.specs.Moments.{Moment, bySound, isSymbol}
 use Rattle.history.specs.Verdict.{verdict}
-use Rattle.history.specs.Share.{Time, once, again, Sender, owner, slave, Reader, station, asker, Share, over, releases, sends, awaits, reads, judges, owes, symbolsOf, toAll, whichOf, zzIn, pbIn, sbIn, forIt, wanted, readsOn, readsForAll, released, silent, ends, fails, sent, acknowledged, ifMore, read, byEnd, answerOut, answerAgain, answerSent, answers, handed, wholeRead, readSoFar, readEnded, readAgain, partRead, ownTaken, ownOut, ownAgain, ownSent}
+use Rattle.history.specs.Share.{Time, once, again, Sender, owner, slave, Reader, station, asker, Share, over, releases, sends, awaits, reads, judges, owes, toAll, whichOf, zzIn, pbIn, sbIn, readsOn, readsForAll, released, silent, ends, fails, sent, acknowledged, ifMore, read, byEnd, answerOut, answerAgain, answerSent, answers, handed, wholeRead, readSoFar, readEnded, readAgain, partRead, ownTaken, ownOut, ownAgain, ownSent}
 
 -- ---- the continuations, by sender and reader
 

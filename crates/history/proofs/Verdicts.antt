@@ -1,13 +1,13 @@
 -- The verdict on one symbol more of a part that is read so far is the outcome of the reader's next step. Assumes nothing.
-use mathlib.Core.Path.{_≡_, refl, sym, ap, ap₂, subst, _∙_}
+use mathlib.Core.Path.{_≡_, refl, sym, ap, _∙_}
 use mathlib.Core.Logic.{_≢_}
 use mathlib.Core.Bool.{Bool, true, false, cond}
 use mathlib.Core.List.{List, [], _∷_, _++_, append-assoc}
-use Prim.Native.Nat.{ℕ, suc, _+_, _≤_, _<_}
+use Prim.Native.Nat.{ℕ, _+_, _≤_, _<_}
 use native.Mathlib.Omega.{arith}
-use borrow.Author.Tests.{eqb-true, eq-eqb, ne-eqb, lt-ltb, le-ltb, le-leb, lt-leb}
-use lib.Dec.{eqb, ltb, leb}
-use lib.ListN.{length, getD, take, length-append, length-take}
+use borrow.Author.Tests.{ne-eqb, lt-ltb, le-ltb, le-leb, lt-leb}
+use lib.Dec.{eqb, leb}
+use lib.ListN.{length, getD, take, length-append}
 use lib.Seq.{length-take-le, take-at, getD-at}
 use Rattle.address.specs.Master.{isMaster}
 use Rattle.address.specs.Half.{halfIndex}
@@ -18,18 +18,17 @@ use Rattle.wire.specs.Reader.{more, ended, readQq, readNn, readByte, dataAs, re
 use Rattle.wire.specs.Reading.{Sixteen, Usable, Message, If-master, before}
 use Rattle.wire.specs.declared.part.Part.{Part}
 use Rattle.wire.specs.declared.part.Part.the-variants.{MasterPart, AnswerPart}
-use Rattle.wire.specs.Symbol.{kindOf, isEscape, isCount}
+use Rattle.wire.specs.Symbol.{isEscape, isCount}
 use Rattle.wire.specs.declared.pair.Undone.{Undone}
 use Rattle.wire.specs.declared.pair.Undone.the-variants.{Byte, Opens, Broken}
 use Rattle.wire.specs.declared.part.Telegram.{Telegram}
 use Rattle.wire.specs.declared.reader.Cursor.{Cursor}
 use Rattle.wire.specs.declared.reader.Place.{Place}
-use Rattle.wire.specs.declared.reader.Place.the-variants.{Qq, Zz, Pb, Sb, Nn, Data, Crc}
+use Rattle.wire.specs.declared.reader.Place.the-variants.{Data, Crc}
 use Rattle.wire.specs.declared.reader.Outcome.{Outcome}
-use Rattle.wire.specs.declared.reader.Outcome.the-variants.{More, NoMaster, Unusable, TooLong, BrokenPair, Whole}
-use Rattle.wire.specs.declared.reader.Step.{Step}
+use Rattle.wire.specs.declared.reader.Outcome.the-variants.{More, NoMaster, TooLong}
 use Rattle.wire.specs.declared.symbol.Kind.{Kind}
-use Rattle.wire.specs.declared.symbol.Kind.the-variants.{Syn, Escape, Count, Plain}
+use Rattle.wire.specs.declared.symbol.Kind.the-variants.{Escape, Count, Plain}
 use Rattle.wire.proofs.Pairs.{pending}
 use Rattle.wire.proofs.SoFar.{heard, Counted, SoFar, Upto, at-qq, at-zz, at-pb, at-sb, at-nn, at-data, at-crc}
 use Rattle.wire.proofs.SymbolKind.{by-kind}

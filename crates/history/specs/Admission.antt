@@ -6,7 +6,7 @@ use lib.Dec.{eqb}
 use lib.ListN.{length}
 use Rattle.address.specs.Half.{lowHalf}
 use Rattle.wire.specs.declared.part.Telegram.{Telegram}
-use Rattle.history.specs.Moments.{Moment, bySound, symbolsIn, History}
+use Rattle.history.specs.Moments.{Moment, bySound, symbolsIn}
 
 -- a telegram waits
 abbrev pub some : List Telegram → Bool

@@ -10,7 +10,7 @@ use Rattle.station.specs.Events.{Event, Word}
 use Rattle.station.specs.Events as word
 use Rattle.station.specs.declared.phase.Sound.{Sound}
 use Rattle.station.specs.declared.phase.Sound.the-variants.{Quiet, Symbol}
-use Rattle.history.specs.Share.{Sender, Reader, station, asker, Time, Share, over, releases, sends, awaits, reads, judges, owes}
+use Rattle.history.specs.Share.{Reader, station, asker, Share, over, releases, sends, awaits, reads, judges, owes}
 use Rattle.history.specs.Observer.{Report, silence, owns, taken, free, given, answered, failed, failedFree}
 
 abbrev pub line : ℕ → Word → List ℕ → Event

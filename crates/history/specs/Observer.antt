@@ -1,6 +1,6 @@
 -- What a station says in a slot and what it is told in it, in 01's words, from what its users see (01, "A slot" to "Release").
 -- Assumes nothing.
-use mathlib.Core.Bool.{Bool, true, false, cond}
+use mathlib.Core.Bool.{Bool, false, cond}
 use mathlib.Core.List.{List, [], _∷_, _++_}
 use Prim.Native.Nat.{ℕ}
 use lib.Dec.{eqb}

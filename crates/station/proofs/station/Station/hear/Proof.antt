@@ -17,9 +17,10 @@ hear-quiet-requires c κs = search needs
 returns : tie.Need-returns
 unfolding hears
 returns c =
-    simp
-    (c .hear-quiet .ensures,
-    c .before .enum-told .given .1)
+    simp (
+      c .hear-quiet .ensures,
+      c .before .enum-told .given .1,
+    )
 
 hear-syn-requires : tie.Need-hear-syn-requires
 hear-syn-requires c κs = search needs
@@ -27,10 +28,11 @@ hear-syn-requires c κs = search needs
 returns-2 : tie.Need-returns-2
 unfolding hears
 returns-2 c =
-    simp
-    (c .hear-syn .ensures,
-    eq-eqb _ _ (c .before .if1 .taken),
-    c .before .before .before .heard .given .1)
+    simp (
+      c .hear-syn .ensures,
+      eq-eqb _ _ (c .before .if1 .taken),
+      c .before .before .before .heard .given .1,
+    )
 
 hear-symbol-requires : tie.Need-hear-symbol-requires
 hear-symbol-requires c κs = search needs
@@ -38,10 +40,11 @@ hear-symbol-requires c κs = search needs
 returns-3 : tie.Need-returns-3
 unfolding hears
 returns-3 c =
-    simp
-    (c .hear-symbol .ensures,
-    ne-eqb _ _ (c .before .if1 .left),
-    c .before .before .before .heard .given .1)
+    simp (
+      c .hear-symbol .ensures,
+      ne-eqb _ _ (c .before .if1 .left),
+      c .before .before .before .heard .given .1,
+    )
 
 pub hear-spec : {M : Type 1} → statement M
 hear-spec =
