@@ -1,6 +1,7 @@
 pub mod Access
 pub mod AsObserved
 pub mod AtLeastTwelve
+pub mod ElevenTooFew
 pub mod FailedWhen
 pub mod Generates
 pub mod HandsOut
