@@ -20,9 +20,9 @@ use Rattle.history.specs.Moments.{isSymbol}
 use Rattle.history.specs.Share.{Time, once, again, Sender, owner, slave, Reader, station, asker, Share}
 use Rattle.history.specs.Share as share
 use Rattle.history.specs.Verdict.{Plainly, bytes, waits, broken, unexpanded, afterNn, verdict}
-use Rattle.history.specs.Observer.{silence, taken, given, answered, failed, failedFree, tellsOut, tellsRefused, tellsRead, tellsFirst, tellsIn, cutShort}
+use Rattle.history.specs.Observer.{silence, taken, given, answered, failed, failedFree, tellsOut, tellsNak, tellsRead, tellsFirst, tellsIn, cutShort}
 use Rattle.history.specs.Observer as observer
-use Rattle.history.specs.Failed.{numberIn, Fails, disturbed, disturbed-first, no-acknowledgement, answer-not-acknowledged, wrong-taken, twice-refused, answer-twice-refused, syn-heard, syn-in-answer, syn-after-answer, pair-broken}
+use Rattle.history.specs.Failed.{numberIn, Fails, disturbed, disturbed-first, no-acknowledgement, answer-not-acknowledged, wrong-taken, nak-twice, answer-nak-twice, syn-heard, syn-in-answer, syn-after-answer, pair-broken}
 
 -- what an answer can come to
 data InAnswer : Outcome → Type 0 where
@@ -85,12 +85,12 @@ module _ (book : ReplyBook) where
       four (owner t) = refl
       four (slave xs) = refl
 
-      again-why : (n : Time) → b ≡ 0xFF → numberIn (tellsRefused n) ≡ k → Fails book k (share.awaits s n) (Symbol b)
+      again-why : (n : Time) → b ≡ 0xFF → numberIn (tellsNak n) ≡ k → Fails book k (share.awaits s n) (Symbol b)
       again-why once i e = none e l
-      again-why again i e = it-is (twice-refused i) e
+      again-why again i e = it-is (nak-twice i) e
 
       by : (x y z : Bool) → eqb b 0x00 ≡ x → eqb b 0xFF ≡ y → eqb b 0xAA ≡ z
-          → numberIn (cond x taken (cond y (tellsRefused n) (cond z (cutShort s) (failed 2)))) ≡ k → Fails book k (share.awaits s n) (Symbol b)
+          → numberIn (cond x taken (cond y (tellsNak n) (cond z (cutShort s) (failed 2)))) ≡ k → Fails book k (share.awaits s n) (Symbol b)
       by true y z p q r e = none e l
       by false true z p q r e = again-why n (eqb-true b 0xFF q) e
       by false false true p q r e = it-is (syn-heard (eqb-true b 0xAA r)) (four s ∙ e)
@@ -142,12 +142,12 @@ module _ (book : ReplyBook) where
       taken-why true i e = none e l
       taken-why false i e = it-is (wrong-taken i) e
 
-      again-why : (n : Time) → b ≡ 0xFF → numberIn (tellsRefused n) ≡ k → Fails book k (share.judges (asker t) n xs matched just) (Symbol b)
+      again-why : (n : Time) → b ≡ 0xFF → numberIn (tellsNak n) ≡ k → Fails book k (share.judges (asker t) n xs matched just) (Symbol b)
       again-why once i e = none e l
-      again-why again i e = it-is (answer-twice-refused i) e
+      again-why again i e = it-is (answer-nak-twice i) e
 
       by : (x y z : Bool) → eqb b 0x00 ≡ x → eqb b 0xFF ≡ y → eqb b 0xAA ≡ z
-          → numberIn (cond x (cond matched answered (failed 2)) (cond y (tellsRefused n) (cond z (failedFree 4) (failed 2)))) ≡ k
+          → numberIn (cond x (cond matched answered (failed 2)) (cond y (tellsNak n) (cond z (failedFree 4) (failed 2)))) ≡ k
           → Fails book k (share.judges (asker t) n xs matched just) (Symbol b)
       by true y z p q r e = taken-why matched (eqb-true b 0x00 p) e
       by false true z p q r e = again-why n (eqb-true b 0xFF q) e
@@ -187,8 +187,8 @@ module _ (book : ReplyBook) where
   then-told (no-acknowledgement {b = b} w) = rw (ne-eqb b 0x00 (w .not-ack), ne-eqb b 0xFF (w .not-nak), ne-eqb b 0xAA (w .not-syn))
   then-told (answer-not-acknowledged {b = b} w) = rw (ne-eqb b 0x00 (w .not-ack), ne-eqb b 0xFF (w .not-nak), ne-eqb b 0xAA (w .not-syn))
   then-told (wrong-taken e) = rw e
-  then-told (twice-refused e) = rw e
-  then-told (answer-twice-refused e) = rw e
+  then-told (nak-twice e) = rw e
+  then-told (answer-nak-twice e) = rw e
   then-told (syn-heard {s = s} e) = rw e (of s)
     where
       of : (s : Sender) → numberIn (cutShort s) ≡ 4
@@ -205,8 +205,8 @@ module _ (book : ReplyBook) where
   reader-never (no-acknowledgement _) e = clash (cc)
   reader-never (answer-not-acknowledged _) e = clash (cc)
   reader-never (wrong-taken _) e = clash (cc)
-  reader-never (twice-refused _) e = clash (cc)
-  reader-never (answer-twice-refused _) e = clash (cc)
+  reader-never (nak-twice _) e = clash (cc)
+  reader-never (answer-nak-twice _) e = clash (cc)
   reader-never (syn-heard _) e = clash (cc)
   reader-never (syn-in-answer _) e = clash (cc)
   reader-never (syn-after-answer _) e = clash (cc)

@@ -42,7 +42,7 @@ use Rattle.history.specs.Moments.{isSymbol}
 use Rattle.history.specs.Share.{Sender, owner, slave, Reader, station, asker, Time, once, again, Share, readsForAll, whichOf}
 use Rattle.history.specs.Share as share
 use Rattle.history.specs.Verdict.{verdict}
-use Rattle.history.specs.Observer.{reportOf, Report, silence, owns, taken, free, given, answered, failed, failedFree, tellsOut, tellsRefused, tellsRead, tellsHanded, toOwner, tellsFirst, tellsIn, disturbed, cutShort}
+use Rattle.history.specs.Observer.{reportOf, Report, silence, owns, taken, free, given, answered, failed, failedFree, tellsOut, tellsNak, tellsRead, tellsHanded, toOwner, tellsFirst, tellsIn, disturbed, cutShort}
 use Rattle.history.specs.Lines.{lines, HandsOut, leftBy}
 use Rattle.history.proofs.Matches.{Named, Holds, Matches, MatchesIn}
 use Rattle.history.proofs.Matches as matches
@@ -121,9 +121,9 @@ none-cut : (d : Sender) → Mute (cutShort d)
 none-cut (owner t) = record { mute = refl }
 none-cut (slave xs) = record { mute = refl }
 
-none-refused : (n : Time) → Mute (tellsRefused n)
-none-refused once = record { mute = refl }
-none-refused again = record { mute = refl }
+none-nak : (n : Time) → Mute (tellsNak n)
+none-nak once = record { mute = refl }
+none-nak again = record { mute = refl }
 
 none-owner : (r : Reader) {f : Report} → Mute f → Mute (toOwner r f)
 none-owner (station a m) e = record { mute = refl }
@@ -289,7 +289,7 @@ module _ (s : Station) (book : ReplyBook) (held : s .phase ≡ Owing → ⊥) wh
       go p e matches.is-releases t = nothing (record { mute = refl })
       go p e (matches.is-sends {s = d} {y = y} {ys = zs} k xs f l w) t = nothing (either (eqb y b) (none-out d zs) (none-disturbed d))
       go p e (matches.is-awaits {s = d} {n = k} w) t =
-          nothing (either (eqb b 0x00) (record { mute = refl }) (either (eqb b 0xFF) (none-refused k) (either (eqb b 0xAA) (none-cut d) (record { mute = refl }))))
+          nothing (either (eqb b 0x00) (record { mute = refl }) (either (eqb b 0xFF) (none-nak k) (either (eqb b 0xAA) (none-cut d) (record { mute = refl }))))
       go p e (matches.is-reads {r = r} {n = k} {xs = xs} c q f w _ i) t =
           let t = rw not-syn at t in
           rw not-syn
@@ -297,5 +297,5 @@ module _ (s : Station) (book : ReplyBook) (held : s .phase ≡ Owing → ⊥) wh
           (λ g. reading-part (part-after s (symbol n)) e refl (λ o. let z : owns ≡ given = sym (ap reportOf o) ∙ t ∙ g in clash (cc))))
       go p e (matches.is-judges {r = r} {n = k} {xs = xs} {matched = y} {just = j} g i) t =
           by-ack (eqb b 0x00) (judging-hands b r k xs y j g i (judging-part (part-after s (symbol n)) e))
-          (either (eqb b 0xFF) (none-owner r (none-refused k)) (either (eqb b 0xAA) (none-owner r (record { mute = refl })) (none-owner r (record { mute = refl }))))
+          (either (eqb b 0xFF) (none-owner r (none-nak k)) (either (eqb b 0xAA) (none-owner r (record { mute = refl })) (none-owner r (record { mute = refl }))))
       go p e (matches.is-owes _ _) t = absurd (held e)

@@ -26,7 +26,7 @@ use Rattle.history.specs.Seen.{momentAt, seen}
 use Rattle.history.specs.Share.{Time, once, again, Sender, owner, slave, Reader, station, asker, Share, readsForAll, whichOf}
 use Rattle.history.specs.Share as share
 use Rattle.history.specs.Verdict.{verdict}
-use Rattle.history.specs.Observer.{reportOf, Report, silence, owns, taken, free, given, answered, failed, failedFree, tellsOut, tellsRefused, tellsRead, handsOut, toOwner, tellsFirst, tellsIn, disturbed, cutShort, shareOf}
+use Rattle.history.specs.Observer.{reportOf, Report, silence, owns, taken, free, given, answered, failed, failedFree, tellsOut, tellsNak, tellsRead, handsOut, toOwner, tellsFirst, tellsIn, disturbed, cutShort, shareOf}
 use Rattle.history.specs.Observer as observer
 use Rattle.history.specs.Failed.{numberIn, Fails}
 use Rattle.history.proofs.AsObserved.{tells-as-observed}
@@ -65,9 +65,9 @@ cut-other : (d : Sender) → Other (cutShort d)
 cut-other (owner t) = record { not-owns = refl }
 cut-other (slave xs) = record { not-owns = refl }
 
-refused-other : (n : Time) → Other (tellsRefused n)
-refused-other once = record { not-owns = refl }
-refused-other again = record { not-owns = refl }
+nak-other : (n : Time) → Other (tellsNak n)
+nak-other once = record { not-owns = refl }
+nak-other again = record { not-owns = refl }
 
 owner-other : (r : Reader) {f : Report} → Other f → Other (toOwner r f)
 owner-other (station a m) e = record { not-owns = refl }
@@ -98,13 +98,13 @@ tells-other (share.sends d n y zs) book h = either (isSymbol y h) (out-other d z
 tells-other (share.awaits d n) book Quiet = record { not-owns = refl }
 tells-other (share.awaits d n) book (Symbol b) =
     either (eqb b 0x00) (record { not-owns = refl })
-    (either (eqb b 0xFF) (refused-other n) (either (eqb b 0xAA) (cut-other d) (record { not-owns = refl })))
+    (either (eqb b 0xFF) (nak-other n) (either (eqb b 0xAA) (cut-other d) (record { not-owns = refl })))
 tells-other (share.reads r n xs) book Quiet = record { not-owns = refl }
 tells-other (share.reads r n xs) book (Symbol b) = either (eqb b 0xAA) (owner-other r (record { not-owns = refl })) (read-other (verdict (whichOf r) (xs ++ (b ∷ []))) r (xs ++ (b ∷ [])))
 tells-other (share.judges r n xs matched just) book Quiet = record { not-owns = refl }
 tells-other (share.judges r n xs matched just) book (Symbol b) =
     either (eqb b 0x00) (either matched (hands-other r) (owner-other r (record { not-owns = refl })))
-    (either (eqb b 0xFF) (owner-other r (refused-other n))
+    (either (eqb b 0xFF) (owner-other r (nak-other n))
     (either (eqb b 0xAA) (owner-other r (record { not-owns = refl })) (owner-other r (record { not-owns = refl }))))
 tells-other (share.owes pb sb) book h = first-other (answerForm (answerFor book pb sb)) h
 

@@ -70,7 +70,7 @@ use Rattle.history.specs.Share as share
 use Rattle.history.specs.Verdict.{verdict}
 use Rattle.history.specs.Share.{Time, once, again, Sender, owner, slave, Reader, station, asker, Share, symbolsOf, toAll, whichOf, zzIn, pbIn, sbIn, forIt, readsOn, ends, fails, ifMore, handed, readSoFar, readEnded, ownSent}
 use Rattle.history.specs.Admission.{some}
-use Rattle.history.specs.Observer.{reportOf, Report, silence, owns, saysIn, tellsIn, tellsOut, tellsRefused, tellsRead, tellsHanded, toOwner}
+use Rattle.history.specs.Observer.{reportOf, Report, silence, owns, saysIn, tellsIn, tellsOut, tellsNak, tellsRead, tellsHanded, toOwner}
 use Rattle.history.specs.Observer as observer
 use Rattle.history.proofs.Headed.{whole-headed, long-headed, answer-head}
 use Rattle.history.proofs.Matches.{attempt, sentPart, readPart, Loaded, Named, HeadOf, Holds, Matches, MatchesIn, Comes}
@@ -162,12 +162,12 @@ module _ (x : Station) (s : Sender) (n : Time) (w : Loaded s (x .out) (x .part))
       by (owner t) = rw (owner-sends-aa x a) (going x Releasing (Failed f) matches.is-releases refl)
       by (slave xs) = going x Silent (Failed f) matches.is-over refl
 
-  refused-comes : Comes (steps.refused s n []) (tellsRefused n) (nakHeard (attempt n) x (sentPart s))
-  refused-comes = by s n again-comes (failed-comes after-3)
+  nak-comes : Comes (steps.onNak s n []) (tellsNak n) (nakHeard (attempt n) x (sentPart s))
+  nak-comes = by s n again-comes (failed-comes after-3)
     where
       by : (s : Sender) (n : Time) → Comes (share.sent s again (symbolsOf s) (out s again) []) silence (goes x (Sending 0 (sentPart s) (attempt again)) Silence)
           → Comes (ends s []) (observer.failed 3) (senderFails (sentPart s) TwiceNak x)
-          → Comes (steps.refused s n []) (tellsRefused n) (nakHeard (attempt n) x (sentPart s))
+          → Comes (steps.onNak s n []) (tellsNak n) (nakHeard (attempt n) x (sentPart s))
       by (owner t) once e f = e
       by (owner t) again e f = f
       by (slave xs) once e f = e
@@ -191,12 +191,12 @@ module _ (x : Station) (s : Sender) (n : Time) (w : Loaded s (x .out) (x .part))
               (matches.is-reads {r = asker t} {n = once} answerStart (x .part) full (reached-none answerStart (x .part)) refl (ap (λ (p : Telegram). p .zz) (w .knows))) refl
 
   reply-comes : (b : ℕ) → Sixteen (x .part .load)
-      → Comes (cond (eqb b 0x00) (steps.taken s []) (cond (eqb b 0xFF) (steps.refused s n []) (ends s [])))
-      (cond (eqb b 0x00) observer.taken (cond (eqb b 0xFF) (tellsRefused n) (observer.failed 2)))
+      → Comes (cond (eqb b 0x00) (steps.taken s []) (cond (eqb b 0xFF) (steps.onNak s n []) (ends s [])))
+      (cond (eqb b 0x00) observer.taken (cond (eqb b 0xFF) (tellsNak n) (observer.failed 2)))
       (hearReply x b (sentPart s) (attempt n))
   unfolding hearReply
   reply-comes b full =
-      by-test (eqb b 0x00) (λ _. taken-comes full) (λ _. by-test (eqb b 0xFF) (λ _. refused-comes) (λ _. failed-comes after-2))
+      by-test (eqb b 0x00) (λ _. taken-comes full) (λ _. by-test (eqb b 0xFF) (λ _. nak-comes) (λ _. failed-comes after-2))
 
 -- ---- who reads a part
 
@@ -208,11 +208,11 @@ module _ (x : Station) (r : Reader) (n : Time) (named : Named r (x .address) (x 
       by (station _ m) = going x Silent Silence matches.is-over refl
       by (asker t) = rw (owner-sends-aa x a) (going x Releasing (Failed f) matches.is-releases refl)
 
-  reread-comes : Comes (rereads r n []) (toOwner r (tellsRefused n)) (readAgain (attempt n) x (readPart r))
+  reread-comes : Comes (rereads r n []) (toOwner r (tellsNak n)) (readAgain (attempt n) x (readPart r))
   reread-comes = by r n named (unread-comes after-3)
     where
       by : (r : Reader) (n : Time) → Named r (x .address) (x .master) (x .part) → Comes (fails r []) (toOwner r (observer.failed 3)) (readerFails (readPart r) TwiceNak x)
-          → Comes (rereads r n []) (toOwner r (tellsRefused n)) (readAgain (attempt n) x (readPart r))
+          → Comes (rereads r n []) (toOwner r (tellsNak n)) (readAgain (attempt n) x (readPart r))
       by (station a m) once k e =
           going x (Reading masterStart MasterPart (attempt again)) Silence
           (matches.is-reads {r = station a m} {n = again} masterStart (x .part) full (reached-none masterStart (x .part)) refl k) refl
@@ -241,7 +241,7 @@ module _ (x : Station) (r : Reader) (n : Time) (named : Named r (x .address) (x 
 
   judge-comes : (b : ℕ) (xs : List ℕ) (matched : Bool) → Holds r xs matched (x .part)
       → Comes (cond (eqb b 0x00) (handed r xs matched []) (cond (eqb b 0xFF) (rereads r n []) (fails r [])))
-      (cond (eqb b 0x00) (tellsHanded r matched) (cond (eqb b 0xFF) (toOwner r (tellsRefused n)) (toOwner r (observer.failed 2))))
+      (cond (eqb b 0x00) (tellsHanded r matched) (cond (eqb b 0xFF) (toOwner r (tellsNak n)) (toOwner r (observer.failed 2))))
       (judges x b (readPart r) (attempt n) matched)
   unfolding judges
   judge-comes b xs matched h =

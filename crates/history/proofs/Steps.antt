@@ -18,15 +18,15 @@ use Rattle.history.specs.Share.{Time, once, again, Sender, owner, slave,
 
 -- ---- the continuations, by sender and reader
 
-abbrev pub refused : Sender → Time → List Moment → Share
-refused (owner t) once ms = ownAgain t ms
-refused (owner t) again ms = released ms
-refused (slave xs) once ms = answerAgain xs ms
-refused (slave xs) again ms = silent ms
+abbrev pub onNak : Sender → Time → List Moment → Share
+onNak (owner t) once ms = ownAgain t ms
+onNak (owner t) again ms = released ms
+onNak (slave xs) once ms = answerAgain xs ms
+onNak (slave xs) again ms = silent ms
 
 abbrev pub out : Sender → Time → List Moment → Share
-out (owner t) n ms = ownOut t n (refused (owner t) n) ms
-out (slave xs) n ms = answerOut xs n (refused (slave xs) n) ms
+out (owner t) n ms = ownOut t n (onNak (owner t) n) ms
+out (slave xs) n ms = answerOut xs n (onNak (slave xs) n) ms
 
 abbrev pub taken : Sender → List Moment → Share
 taken (owner t) ms = ownTaken t ms
@@ -46,7 +46,7 @@ next over x = over
 next releases x = over
 next (sends s n y ys) x = cond (isSymbol y (x .heard)) (sent s n ys (out s n) []) over
 next (awaits s n) x =
-    bySound (x .heard) (awaits s n) (λ b. cond (eqb b 0x00) (taken s []) (cond (eqb b 0xFF) (refused s n []) (ends s [])))
+    bySound (x .heard) (awaits s n) (λ b. cond (eqb b 0x00) (taken s []) (cond (eqb b 0xFF) (onNak s n []) (ends s [])))
 next (reads r n xs) x = bySound (x .heard) (reads r n xs) (λ b. nextRead r n (xs ++ (b ∷ [])))
 next (judges r n xs matched just) x =
     bySound (x .heard) (judges r n xs matched false)
@@ -97,16 +97,16 @@ module _ (x : Moment) where
   sent-steps s n o (y ∷ ys) [] = record { goes = refl }
   sent-steps s n o (y ∷ ys) (m ∷ ms) = by-test (isSymbol y (m .heard)) (sent-steps s n o ys ms) (record { goes = refl })
 
-  answer-out-steps : (xs : List ℕ) (n : Time) → Steps x (refused (slave xs) n) → Steps x (out (slave xs) n)
+  answer-out-steps : (xs : List ℕ) (n : Time) → Steps x (onNak (slave xs) n) → Steps x (out (slave xs) n)
   answer-out-steps xs n f ms =
-      acknowledged-steps (λ just. awaits (slave xs) n) silent (refused (slave xs) n) silent silent-steps f silent-steps (λ _. refl) true ms
+      acknowledged-steps (λ just. awaits (slave xs) n) silent (onNak (slave xs) n) silent silent-steps f silent-steps (λ _. refl) true ms
 
-  answer-refused-steps : (xs : List ℕ) (n : Time) → Steps x (refused (slave xs) n)
-  answer-refused-steps xs again ms = record { goes = refl }
-  answer-refused-steps xs once ms = sent-steps (slave xs) again (answer-out-steps xs again silent-steps) xs ms
+  answer-nak-steps : (xs : List ℕ) (n : Time) → Steps x (onNak (slave xs) n)
+  answer-nak-steps xs again ms = record { goes = refl }
+  answer-nak-steps xs once ms = sent-steps (slave xs) again (answer-out-steps xs again silent-steps) xs ms
 
   pub answer-sent-steps : (xs : List ℕ) → Steps x (answerSent xs)
-  answer-sent-steps xs ms = sent-steps (slave xs) once (answer-out-steps xs once (answer-refused-steps xs once)) xs ms
+  answer-sent-steps xs ms = sent-steps (slave xs) once (answer-out-steps xs once (answer-nak-steps xs once)) xs ms
 
   answers-steps : (pb sb : ℕ) → Steps x (answers pb sb)
   answers-steps pb sb [] = record { goes = refl }
@@ -197,14 +197,14 @@ module _ (x : Moment) where
   own-taken-steps : (t : Telegram) → Steps x (ownTaken t)
   own-taken-steps t ms = by-test (isMaster (t .zz)) (released-steps ms) (part-read-steps (asker t) ms)
 
-  own-out-steps : (t : Telegram) (n : Time) → Steps x (refused (owner t) n) → Steps x (out (owner t) n)
+  own-out-steps : (t : Telegram) (n : Time) → Steps x (onNak (owner t) n) → Steps x (out (owner t) n)
   own-out-steps t n f ms =
       by-test (toAll (t .zz)) (released-steps ms)
-      (acknowledged-steps (λ just. awaits (owner t) n) (ownTaken t) (refused (owner t) n) released (own-taken-steps t) f released-steps (λ _. refl) true ms)
+      (acknowledged-steps (λ just. awaits (owner t) n) (ownTaken t) (onNak (owner t) n) released (own-taken-steps t) f released-steps (λ _. refl) true ms)
 
-  own-refused-steps : (t : Telegram) (n : Time) → Steps x (refused (owner t) n)
-  own-refused-steps t again ms = released-steps ms
-  own-refused-steps t once ms = sent-steps (owner t) again (own-out-steps t again released-steps) (telegramForm t) ms
+  own-nak-steps : (t : Telegram) (n : Time) → Steps x (onNak (owner t) n)
+  own-nak-steps t again ms = released-steps ms
+  own-nak-steps t once ms = sent-steps (owner t) again (own-out-steps t again released-steps) (telegramForm t) ms
 
   pub own-steps : (t : Telegram) → Steps x (ownSent t)
-  own-steps t ms = sent-steps (owner t) once (own-out-steps t once (own-refused-steps t once)) (telegramForm t) ms
+  own-steps t ms = sent-steps (owner t) once (own-out-steps t once (own-nak-steps t once)) (telegramForm t) ms

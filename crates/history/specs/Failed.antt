@@ -47,8 +47,8 @@ pub data Fails (book : ReplyBook) : ℕ → Share → Sound → Type 0 where
   -- 2: the owner hears 00 after a wrong CRC
   wrong-taken : {t : Telegram} {n : Time} {xs : List ℕ} {just : Bool} {b : ℕ} → b ≡ 0x00 → Fails book 2 (judges (asker t) n xs false just) (Symbol b)
   -- 3: FF a second time
-  twice-refused : {s : Sender} {b : ℕ} → b ≡ 0xFF → Fails book 3 (awaits s again) (Symbol b)
-  answer-twice-refused : {t : Telegram} {xs : List ℕ} {matched just : Bool} {b : ℕ} → b ≡ 0xFF → Fails book 3 (judges (asker t) again xs matched just) (Symbol b)
+  nak-twice : {s : Sender} {b : ℕ} → b ≡ 0xFF → Fails book 3 (awaits s again) (Symbol b)
+  answer-nak-twice : {t : Telegram} {xs : List ℕ} {matched just : Bool} {b : ℕ} → b ≡ 0xFF → Fails book 3 (judges (asker t) again xs matched just) (Symbol b)
   -- 4: AA instead of the acknowledgement, or while the owner awaits or reads an answer, also right after an A9
   syn-heard : {s : Sender} {n : Time} {b : ℕ} → b ≡ 0xAA → Fails book 4 (awaits s n) (Symbol b)
   syn-in-answer : {t : Telegram} {n : Time} {xs : List ℕ} {b : ℕ} → b ≡ 0xAA → Fails book 4 (reads (asker t) n xs) (Symbol b)

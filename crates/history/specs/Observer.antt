@@ -105,9 +105,9 @@ tellsOut s [] = cond (sendsToAll s) taken silence
 tellsOut s (y ∷ ys) = silence
 
 -- FF the first time is no failure, a second time it is failed 3
-abbrev pub tellsRefused : Time → Report
-tellsRefused once = silence
-tellsRefused again = failed 3
+abbrev pub tellsNak : Time → Report
+tellsNak once = silence
+tellsNak again = failed 3
 
 -- only senders and owners are told failed
 abbrev pub toOwner : Reader → Report → Report
@@ -143,12 +143,12 @@ tellsIn over book h = silence
 tellsIn releases book h = free
 tellsIn (sends s n y ys) book h = cond (isSymbol y h) (tellsOut s ys) (disturbed s)
 tellsIn (awaits s n) book h =
-    bySound h silence (λ b. cond (eqb b 0x00) taken (cond (eqb b 0xFF) (tellsRefused n) (cond (eqb b 0xAA) (cutShort s) (failed 2))))
+    bySound h silence (λ b. cond (eqb b 0x00) taken (cond (eqb b 0xFF) (tellsNak n) (cond (eqb b 0xAA) (cutShort s) (failed 2))))
 tellsIn (reads r n xs) book h =
     bySound h silence (λ b. cond (eqb b 0xAA) (toOwner r (failedFree 4)) (tellsRead (verdict (whichOf r) (xs ++ (b ∷ []))) r (xs ++ (b ∷ []))))
 tellsIn (judges r n xs matched just) book h =
     bySound h silence (λ b. cond (eqb b 0x00) (tellsHanded r matched)
-    (cond (eqb b 0xFF) (toOwner r (tellsRefused n)) (cond (eqb b 0xAA) (toOwner r (failedFree 4)) (toOwner r (failed 2)))))
+    (cond (eqb b 0xFF) (toOwner r (tellsNak n)) (cond (eqb b 0xAA) (toOwner r (failedFree 4)) (toOwner r (failed 2)))))
 tellsIn (owes pb sb) book h = tellsFirst (answerForm (answerFor book pb sb)) h
 
 -- it sends its QQ in this slot, and hears its own address: it owns the wire

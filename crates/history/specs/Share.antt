@@ -156,7 +156,7 @@ byEnd (Whole matched) whole broken = whole matched
 -- ---- a slave's answer, from its reply entry as the slot after 00 begins; the same again after FF
 
 abbrev pub answerOut : List ℕ → Time → (List Moment → Share) → List Moment → Share
-answerOut xs n refused ms = acknowledged (λ just. awaits (slave xs) n) silent refused silent true ms
+answerOut xs n onNak ms = acknowledged (λ just. awaits (slave xs) n) silent onNak silent true ms
 
 abbrev pub answerAgain : List ℕ → List Moment → Share
 answerAgain xs ms = sent (slave xs) again xs (answerOut xs again silent) ms
@@ -177,14 +177,14 @@ handed (asker t) xs matched ms = released ms
 
 -- a whole part: a broadcast is done, any other is acknowledged
 abbrev pub wholeRead : Reader → Time → (List Moment → Share) → List ℕ → List Moment → Bool → Share
-wholeRead r n refused xs ms matched =
-    cond (readsForAll r xs) over (acknowledged (judges r n xs matched) (handed r xs matched) refused (fails r) true ms)
+wholeRead r n onNak xs ms matched =
+    cond (readsForAll r xs) over (acknowledged (judges r n xs matched) (handed r xs matched) onNak (fails r) true ms)
 
 abbrev pub readSoFar : Reader → Time → List ℕ → Share
 readSoFar r n xs = cond (readsOn r xs) (reads r n xs) over
 
 abbrev pub readEnded : Reader → Time → (List Moment → Share) → Outcome → List ℕ → List Moment → Share
-readEnded r n refused v xs ms = cond (readsOn r xs) (byEnd v (wholeRead r n refused xs ms) (fails r ms)) over
+readEnded r n onNak v xs ms = cond (readsOn r xs) (byEnd v (wholeRead r n onNak xs ms) (fails r ms)) over
 
 abbrev pub readAgain : Reader → List Moment → Share
 readAgain r ms = read (whichOf r) (readSoFar r again) (readEnded r again (fails r)) [] ms
@@ -200,8 +200,8 @@ ownTaken t ms = cond (isMaster (t .zz)) (released ms) (partRead (asker t) ms)
 
 -- the whole part is out: a broadcast is done, any other is acknowledged
 abbrev pub ownOut : Telegram → Time → (List Moment → Share) → List Moment → Share
-ownOut t n refused ms =
-    cond (toAll (t .zz)) (released ms) (acknowledged (λ just. awaits (owner t) n) (ownTaken t) refused released true ms)
+ownOut t n onNak ms =
+    cond (toAll (t .zz)) (released ms) (acknowledged (λ just. awaits (owner t) n) (ownTaken t) onNak released true ms)
 
 abbrev pub ownAgain : Telegram → List Moment → Share
 ownAgain t ms = sent (owner t) again (telegramForm t) (ownOut t again released) ms

@@ -82,7 +82,7 @@ formText TooLong = refusedText ++ decimalText 15 ++ 32 ∷ decimalText 65536 ++ 
 unfoldable pub endText : ℕ → List ℕ
 endText slot = (101 ∷ 110 ∷ 100 ∷ 32 ∷ []) ++ decimalText slot ++ newline
 
--- ---- as the code writes them
+-- ---- no rule: the lines as the code writes them, proved equal to the above (proofs/Texts.antt); a reader of the rules can pass them by
 
 -- a line with a word alone
 unfoldable pub plainText : ℕ → ℕ → List ℕ → List ℕ
