@@ -63,6 +63,16 @@ pub last-line : {C : Type 0} (t : Bool) → ((t ≡ false) ↔ C) → (n : ℕ) 
 last-line true r n h = (λ e. absurd (h e), λ c. absurd (true≢false (r .1 c)))
 last-line false r n h = (λ e. r .0 refl, λ c. refl)
 
+-- the call is done exactly where the last line does not hold
+pub no-line : {C : Type 0} (t : Bool) → ((t ≡ false) ↔ C) → (n : ℕ) → n ≢ 0 → (cond t 0 n ≡ 0) ↔ (C → ⊥)
+no-line true r n h = (λ e c. true≢false (r .1 c), λ f. refl)
+no-line false r n h = (λ e. absurd (h e), λ f. absurd (f (r .0 refl)))
+
+-- whichever line it is, the number is one of these
+pub either-number : (P : ℕ → Type 0) (t : Bool) (m rest : ℕ) → P m → P rest → P (cond t m rest)
+either-number P true m rest p q = p
+either-number P false m rest p q = q
+
 pub not-number : (t : Bool) (m rest n : ℕ) → m ≢ n → rest ≢ n → cond t m rest ≢ n
 not-number true m rest n h q e = h e
 not-number false m rest n h q e = q e

@@ -1,6 +1,7 @@
 -- Refusals 7, 8, 9 and 10: attach gives each exactly when its line of 01's table holds and no earlier one does.
 -- Assumes nothing.
 use mathlib.Core.Path.{_≡_, refl}
+use mathlib.Core.List.{[], _∷_}
 use mathlib.Core.Bool.{Bool, true, false, cond, _||_, true≢false, false≢true}
 use mathlib.Core.Logic.{_↔_, _⊎_, inl, inr}
 use Prim.Native.Nat.{ℕ}
@@ -16,9 +17,9 @@ use Rattle.bus.specs.declared.bus.Bus.{Bus}
 use Rattle.bus.specs.declared.find.Query.the-variants.{Holder}
 use Rattle.bus.specs.Attach.{wrongFor, noSuchAddress, occupied, takesSeat, attaches}
 use Rattle.bus.specs.Bus.{seats, attachedTo, attachedTurns, refusedBy, done}
-use Rattle.bus.specs.Conditions.{numberGiven, Unless, HasRun, WrongAddress, AnswersTo, Used, AddressUsed, AllSeatsTaken}
+use Rattle.bus.specs.Conditions.{numberGiven, here, there, OneOf, Unless, HasRun, WrongAddress, AnswersTo, Used, AddressUsed, AllSeatsTaken}
 use Rattle.bus.specs.Find.{meets, firstOf, thereIs}
-use Rattle.bus.proofs.Reflects.{Reflects, equal, equal-turned, or-reflects, and-reflects, itself, this-line, earlier-line, last-line, not-number, number-cond, search-reflects}
+use Rattle.bus.proofs.Reflects.{Reflects, equal, equal-turned, or-reflects, and-reflects, itself, this-line, earlier-line, last-line, no-line, either-number, not-number, number-cond, search-reflects}
 
 -- ---- the tests
 
@@ -123,3 +124,20 @@ module _ (b : Bus) (a : ℕ) (master : Bool) where
       (earlier-line (noSuchAddress a master) (wrong-reflects a master) 8 10 _ (omega arith)
       (earlier-line (occupied b a master) (occupied-reflects b a master) 9 10 _ (omega arith)
       (last-line (ltb (b .count) seats) (full b) 10 (omega arith)))))
+
+  -- done, which is number 0, exactly when none of these lines holds
+  pub attach-done-exactly-when : (numberGiven (attaches b a master) ≡ 0)
+      ↔ Unless (HasRun b) (Unless (WrongAddress a master) (Unless (AddressUsed b a master) (AllSeatsTaken b → ⊥)))
+  attach-done-exactly-when = rw (attach-number b a master)
+      (earlier-line (b .ran) (itself (b .ran)) 7 0 _ (omega arith)
+      (earlier-line (noSuchAddress a master) (wrong-reflects a master) 8 0 _ (omega arith)
+      (earlier-line (occupied b a master) (occupied-reflects b a master) 9 0 _ (omega arith)
+      (no-line (ltb (b .count) seats) (full b) 10 (omega arith)))))
+
+  -- and refused with no other number
+  pub attach-own-numbers : OneOf (0 ∷ 7 ∷ 8 ∷ 9 ∷ 10 ∷ []) (numberGiven (attaches b a master))
+  attach-own-numbers = rw (attach-number b a master)
+      (either-number (OneOf (0 ∷ 7 ∷ 8 ∷ 9 ∷ 10 ∷ [])) (b .ran) 7 _ (there (here refl))
+      (either-number (OneOf (0 ∷ 7 ∷ 8 ∷ 9 ∷ 10 ∷ [])) (noSuchAddress a master) 8 _ (there (there (here refl)))
+      (either-number (OneOf (0 ∷ 7 ∷ 8 ∷ 9 ∷ 10 ∷ [])) (occupied b a master) 9 _ (there (there (there (here refl))))
+      (either-number (OneOf (0 ∷ 7 ∷ 8 ∷ 9 ∷ 10 ∷ [])) (ltb (b .count) seats) 0 10 (here refl) (there (there (there (there (here refl)))))))))

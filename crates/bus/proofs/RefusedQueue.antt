@@ -2,7 +2,7 @@
 -- given. Assumes nothing.
 use mathlib.Core.Path.{_≡_, refl, sym, ap, _∙_}
 use mathlib.Core.Bool.{Bool, true, false, cond, _||_, true≢false, false≢true}
-use mathlib.Core.List.{List}
+use mathlib.Core.List.{List, [], _∷_}
 use mathlib.Core.Logic.{_↔_, _≢_, _⊎_, inl, inr, ⊎-elim}
 use Prim.Native.Nat.{ℕ, _≤_, _<_}
 use native.Mathlib.Omega.{arith}
@@ -30,11 +30,11 @@ use Rattle.bus.specs.declared.bus.Bus.{Bus}
 use Rattle.bus.specs.declared.find.Query.{Query}
 use Rattle.bus.specs.declared.find.Query.the-variants.{Master}
 use Rattle.bus.specs.Bus.{unseated, attachedTo, attachedTurns, turnAt, refusedBy, done}
-use Rattle.bus.specs.Conditions.{numberGiven, Any, First, Unless, MasterAt, NoSource, Forbidden, WrongTarget, WrongCommand, MuchData, LongPart, QueueFull}
+use Rattle.bus.specs.Conditions.{numberGiven, Any, here, there, OneOf, First, Unless, MasterAt, NoSource, Forbidden, WrongTarget, WrongCommand, MuchData, LongPart, QueueFull}
 use Rattle.bus.specs.Find.{isMasterAt, meets, firstOf}
 use Rattle.bus.specs.Queue.{isNever, unusable, noTarget, noCommand, holds, queuesTelegram, queuesFrom, queuesAt, queues}
 use Rattle.laws.proofs.FirstIs.{found-at}
-use Rattle.bus.proofs.Reflects.{Reflects, refuses, equal, below, or-reflects, and-reflects, itself, this-line, earlier-line, last-line, not-number, number-cond, search-reflects, found-first, first-one, first-holds}
+use Rattle.bus.proofs.Reflects.{Reflects, refuses, equal, below, or-reflects, and-reflects, itself, this-line, earlier-line, last-line, no-line, either-number, not-number, number-cond, search-reflects, found-first, first-one, first-holds}
 
 -- ---- the tests
 
@@ -234,3 +234,34 @@ module _ (b : Bus) (qq zz pb sb : ℕ) (bytes : List ℕ) where
       (earlier-line (ltb 16 (length bytes)) (below 16 (length bytes)) 4 5 _ (omega arith)
       (earlier-line (tooLong i) (long-reflects i (first-holds s)) 6 5 _ (omega arith)
       (last-line (roomy i) (full-reflects i s) 5 (omega arith)))))
+
+  -- done, which is number 0, exactly when none of these lines holds
+  pub queue-done-exactly-when : (given ≡ 0)
+      ↔ Unless (NoSource b qq)
+      (Unless (WrongTarget qq zz)
+      (Unless (WrongCommand pb sb) (Unless (MuchData bytes) (Unless (LongPart qq zz pb sb bytes) (QueueFull b qq → ⊥)))))
+  queue-done-exactly-when = after-target 0 (omega arith) (omega arith)
+      (λ i s. earlier-line (noCommand pb sb) (command-reflects pb sb) 3 0 _ (omega arith)
+      (earlier-line (ltb 16 (length bytes)) (below 16 (length bytes)) 4 0 _ (omega arith)
+      (earlier-line (tooLong i) (long-reflects i (first-holds s)) 6 0 _ (omega arith)
+      (no-line (roomy i) (full-reflects i s) 5 (omega arith)))))
+
+  abbrev Own : ℕ → Type 0
+  Own n = OneOf (0 ∷ 1 ∷ 2 ∷ 3 ∷ 4 ∷ 6 ∷ 5 ∷ []) n
+
+  own-lines : (i : ℕ) → Own (lines i)
+  own-lines i =
+      either-number Own (noTarget (turnAt b i .station) zz) 2 _ (there (there (here refl)))
+      (either-number Own (noCommand pb sb) 3 _ (there (there (there (here refl))))
+      (either-number Own (ltb 16 (length bytes)) 4 _ (there (there (there (there (here refl)))))
+      (either-number Own (tooLong i) 6 _ (there (there (there (there (there (here refl))))))
+      (either-number Own (roomy i) 0 5 (here refl) (there (there (there (there (there (there (here refl)))))))))))
+
+  -- and refused with no other number
+  pub queue-own-numbers : Own given
+  unfolding queues refusedBy
+  queue-own-numbers = go (firstOf b (Master qq))
+    where
+      go : (f : Found) → Own (numberGiven (queuesAt f b zz pb sb bytes))
+      go (At i) = rw (queue-number i) (own-lines i)
+      go Missing = there (here refl)

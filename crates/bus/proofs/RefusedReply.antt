@@ -21,11 +21,11 @@ use Rattle.station.specs.declared.station.Turn.{Turn}
 use Rattle.bus.specs.declared.bus.Bus.{Bus}
 use Rattle.bus.specs.declared.find.Query.the-variants.{Slave}
 use Rattle.bus.specs.Bus.{attachedTurns, turnAt, refusedBy, done}
-use Rattle.bus.specs.Conditions.{numberGiven, Any, here, there, First, Unless, WrongCommand, MuchData, SlaveAt, NoSlaveThere, EntryFor, HasEntry, NoRoomFor}
+use Rattle.bus.specs.Conditions.{numberGiven, Any, here, there, OneOf, First, Unless, WrongCommand, MuchData, SlaveAt, NoSlaveThere, EntryFor, HasEntry, NoRoomFor}
 use Rattle.bus.specs.Find.{slaveAddress, meets, firstOf}
 use Rattle.bus.specs.Queue.{noCommand}
 use Rattle.bus.specs.Reply.{writes, repliesFrom, repliesAt, replies}
-use Rattle.bus.proofs.Reflects.{Reflects, refuses, equal, below, and-reflects, this-line, earlier-line, last-line, not-number, number-cond, any-some, any-tail, first-one}
+use Rattle.bus.proofs.Reflects.{Reflects, refuses, equal, below, and-reflects, this-line, earlier-line, last-line, no-line, either-number, not-number, number-cond, any-some, any-tail, first-one}
 use Rattle.bus.proofs.RefusedQueue.{command-reflects, turn-found, someone}
 
 -- ---- the tests
@@ -155,3 +155,29 @@ module _ (b : Bus) (slave pb sb : ℕ) (bytes : List ℕ) where
       (λ i s. earlier-line (noCommand pb sb) (command-reflects pb sb) 3 12 _ (omega arith)
       (earlier-line (ltb 16 (length bytes)) (below 16 (length bytes)) 4 12 _ (omega arith)
       (last-line (roomy i) (full-reflects i s) 12 (omega arith))))
+
+  -- done, which is number 0, exactly when none of these lines holds
+  pub reply-done-exactly-when : (given ≡ 0)
+      ↔ Unless (NoSlaveThere b slave) (Unless (WrongCommand pb sb) (Unless (MuchData bytes) (NoRoomFor b slave pb sb → ⊥)))
+  reply-done-exactly-when = after-slave 0 (omega arith)
+      (λ i s. earlier-line (noCommand pb sb) (command-reflects pb sb) 3 0 _ (omega arith)
+      (earlier-line (ltb 16 (length bytes)) (below 16 (length bytes)) 4 0 _ (omega arith)
+      (no-line (roomy i) (full-reflects i s) 12 (omega arith))))
+
+  abbrev Own : ℕ → Type 0
+  Own n = OneOf (0 ∷ 11 ∷ 3 ∷ 4 ∷ 12 ∷ []) n
+
+  own-lines : (i : ℕ) → Own (lines i)
+  own-lines i =
+      either-number Own (noCommand pb sb) 3 _ (there (there (here refl)))
+      (either-number Own (ltb 16 (length bytes)) 4 _ (there (there (there (here refl))))
+      (either-number Own (roomy i) 0 12 (here refl) (there (there (there (there (here refl)))))))
+
+  -- and refused with no other number
+  pub reply-own-numbers : Own given
+  unfolding replies refusedBy
+  reply-own-numbers = go (firstOf b (Slave slave))
+    where
+      go : (f : Found) → Own (numberGiven (repliesAt f b pb sb bytes))
+      go (At i) = rw (reply-number i) (own-lines i)
+      go Missing = there (here refl)

@@ -34,6 +34,10 @@ pub data Any {A : Type 0} (P : A → Type 0) : List A → Type 0 where
   here : {a : A} {l : List A} → P a → Any P (a ∷ l)
   there : {a : A} {l : List A} → Any P l → Any P (a ∷ l)
 
+-- a number is one of these
+abbrev pub OneOf : List ℕ → ℕ → Type 0
+OneOf ns n = Any (λ (m : ℕ). n ≡ m) ns
+
 -- a is the first element of which P holds
 pub data First {A : Type 0} (P : A → Type 0) (a : A) : List A → Type 0 where
   first : {l : List A} → P a → First P a (a ∷ l)
