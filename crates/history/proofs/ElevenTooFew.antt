@@ -2,7 +2,7 @@
 use mathlib.Core.Path.{_≡_, refl, sym, ap, subst, _∙_}
 use mathlib.Core.Bool.{Bool, true, false, true≢false}
 use mathlib.Core.List.{List, [], _∷_, _++_}
-use Prim.Native.Nat.{ℕ, _<_}
+use Prim.Native.Nat.{_<_}
 use native.Mathlib.Omega.{arith}
 use lib.ListN.{length}
 use Rattle.station.specs.declared.phase.Told.{Told}
@@ -11,7 +11,7 @@ use Rattle.bus.specs.declared.bus.Bus.{Bus}
 use Rattle.promises.specs.Calls.{Call, attach, queue, reply, slot, heard, afterCall}
 use Rattle.promises.specs.Contest.{queued, Undisturbed, by-all, between, Each, Contends, LeastRank, OwnsInOneOf, this-slot, later}
 use Rattle.promises.specs.Slots.{slotsIn}
-use Rattle.promises.proofs.Computed.TwelfthRun.{Line, lines, begins, p9, ten-contends, ten-least, ten-owns-in-the-twelfth}
+use Rattle.promises.proofs.Computed.TwelfthRun.{Line, lines, begins, ten-contends, ten-least, ten-owns-in-the-twelfth}
 
 -- the calls of that run without the last slot
 abbrev pub eleven : List Call
