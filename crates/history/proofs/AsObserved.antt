@@ -1,5 +1,6 @@
 -- Demand 2 by what is heard: after any calls from power-on, what every attached station says in the next slot, and what it is
--- told in it, whatever is heard, is what the observer says (01, "A slot" to "Release"). Assumes nothing.
+-- told in it, whatever is heard, is what the observer says from its slots and from the calls that brought its address, its
+-- telegrams and its answers; no state of the station stands there (01, "A slot" to "Release"). Assumes nothing.
 use mathlib.Core.Path.{_≡_, refl, sym, ap, ap₂, subst, subst₂, _∙_}
 use mathlib.Core.Bool.{Bool, false, true≢false}
 use mathlib.Core.List.{List, [], _∷_}
@@ -8,13 +9,14 @@ use native.Mathlib.Omega.{arith}
 use native.Mathlib.Nat.{not-suc-le-zero}
 use native.Mathlib.Decide.{ℕ-discrete}
 use Rattle.station.specs.Events.{tells}
+use Rattle.wire.specs.declared.part.Telegram.{Telegram}
 use Rattle.station.specs.Outbox.{waiting}
-use Rattle.station.specs.declared.outbox.Outbox.{Outbox}
+use Rattle.station.specs.Replies.{answerFor}
 use Rattle.station.specs.Station.{fresh, ready, says}
 use Rattle.station.specs.declared.phase.Sound.{Sound}
 use Rattle.station.specs.declared.station.Station.{Station}
 use Rattle.station.specs.declared.station.Turn.{Turn}
-use Rattle.station.proofs.Frame.{ready-lasting, ready-outbox, hears-lasting, outbox-after}
+use Rattle.station.proofs.Frame.{ready-lasting, hears-lasting}
 use Rattle.bus.specs.declared.bus.Bus.{Bus}
 use Rattle.bus.specs.declared.bus.Answer.{Answer}
 use Rattle.bus.specs.Bus.{poweredOn, attachedTo, turnAt, withTurn}
@@ -28,14 +30,17 @@ use Rattle.promises.proofs.Shared.Outgoing.{reachable-more}
 use Rattle.promises.proofs.Shared.Seats.{Did, refused, attached, queued, replied, withNewcomer, holdingMore, answeringMore, attached-turn, turn-same, turn-other, attached-before, attached-newcomer, newcomer-seat, other-seat, did-attach, did-queue, did-reply, attached-slot, slot-seat}
 use Rattle.promises.proofs.Shared.Stations.{reachable-sane}
 use Rattle.promises.proofs.Taken.Together.{reachable-together}
-use Rattle.history.specs.Moments.{History, nothing}
-use Rattle.history.specs.Seen.{momentAt, later, seenCall, seenCalls, seen}
+use Rattle.history.specs.Moments.{Answers, History, nothing}
+use Rattle.history.specs.Held.{Who}
+use Rattle.history.specs.Seen.{Known, unknown, momentIn, later, seenCall, knownCall, knownCalls, seen, heldBy, answersBy, stationBy}
 use Rattle.history.specs.Observer as observer
 use Rattle.history.proofs.Matches as matches
 use Rattle.history.proofs.Observed.{Observed, says-now, tells-now, hands-now, observed-later}
+use Rattle.history.proofs.Slots.{moment}
 use Rattle.history.specs.Lines.{lines, HandsOut, leftBy}
 use Rattle.history.specs.Observer.{reportOf, Report}
-use Rattle.history.proofs.HandsOut.{lines-are, left-are}
+use Rattle.history.proofs.HandsOut.{lines-are}
+use Rattle.history.proofs.HeldByCalls.{whoOf, slot-held, Account, account-call, on-account, on-reachable, account, station-by-calls, held-by-calls}
 use Rattle.history.proofs.Shares.{none-admitted}
 
 -- ---- an attached station of a reachable bus
@@ -55,14 +60,14 @@ module _ (b : Bus) (r : Reachable b) (i : ℕ) (l : i < attachedTo b) (g : Histo
   abbrev s : Station
   s = stationAt b i
 
-  pub seat-says : saidBy (turnAt b i) ≡ observer.says (s .address) (s .master) g (waiting (s .outbox)) (s .replies)
+  pub seat-says : saidBy (turnAt b i) ≡ observer.says (s .address) (s .master) g (waiting (s .outbox)) (answerFor (s .replies))
   seat-says =
       let k = reachable-sane r i l in
       let f = reachable-together r .each i l in
       says-now s (k .outbox) (f .array) (k .possible) (λ pb sb. answer-full (s .replies) pb sb (k .entries)) (f .outgoing)
       (reachable-fit r .addressed i l .master-address) g w
 
-  pub seat-tells : (h : Sound) → reportOf (turned h (turnAt b i) .told) ≡ observer.tells (s .address) (s .master) g (waiting (s .outbox)) (s .replies) h
+  pub seat-tells : (h : Sound) → reportOf (turned h (turnAt b i) .told) ≡ observer.tells (s .address) (s .master) g (waiting (s .outbox)) (answerFor (s .replies)) h
   seat-tells h =
       let k = reachable-sane r i l in
       let f = reachable-together r .each i l in
@@ -70,30 +75,24 @@ module _ (b : Bus) (r : Reachable b) (i : ℕ) (l : i < attachedTo b) (g : Histo
       (reachable-fit r .addressed i l .master-address) g w h
 
   pub seat-hands : (h : Sound)
-      → HandsOut (observer.shareOf (s .address) (s .master) g) h (observer.tells (s .address) (s .master) g (waiting (s .outbox)) (s .replies) h) (turned h (turnAt b i) .station .part)
+      → HandsOut (observer.shareOf (s .address) (s .master) g) h (observer.tells (s .address) (s .master) g (waiting (s .outbox)) (answerFor (s .replies)) h) (turned h (turnAt b i) .station .part)
   seat-hands h =
       let k = reachable-sane r i l in
       let f = reachable-together r .each i l in
       hands-now s (k .outbox) (f .array) (k .possible) (λ pb sb. answer-full (s .replies) pb sb (k .entries)) (f .outgoing)
       (reachable-fit r .addressed i l .master-address) g w h
 
-  -- the telegram held longest leaves where free is told
-  pub seat-left : (h : Sound) → waiting (turned h (turnAt b i) .station .outbox) ≡ leftBy (reportOf (turned h (turnAt b i) .told)) (waiting (s .outbox))
-  seat-left h =
-      ap waiting (outbox-after (ready s) h) ∙ left-are (turned h (turnAt b i) .told) (ready s .outbox) (rw (ready-outbox s) (reachable-sane r i l .outbox))
-      ∙ ap (λ (o : Outbox). leftBy (reportOf (turned h (turnAt b i) .told)) (waiting o)) (ready-outbox s)
-
-  seat-later : (h : Sound) → Observed (s .address) (s .master) (later g (momentAt b i h)) (turned h (turnAt b i) .station)
+  seat-later : (h : Sound) → Observed (s .address) (s .master) (later g (moment (waiting (s .outbox)) (answerFor (s .replies)) h)) (turned h (turnAt b i) .station)
   seat-later h =
       let k = reachable-sane r i l in
       let f = reachable-together r .each i l in
       observed-later s (k .outbox) (f .array) (k .possible) (λ pb sb. answer-full (s .replies) pb sb (k .entries)) (f .outgoing)
       (reachable-fit r .addressed i l .master-address) g w h
 
-  turn-later : (h : Sound) → TurnObserved (later g (momentAt b i h)) (turned h (turnAt b i))
+  turn-later : (h : Sound) → TurnObserved (later g (moment (waiting (s .outbox)) (answerFor (s .replies)) h)) (turned h (turnAt b i))
   turn-later h =
       let t = ready (stationAt b i) in
-      subst₂ (λ (a : ℕ) (m : Bool). Observed a m (later g (momentAt b i h)) (turned h (turnAt b i) .station))
+      subst₂ (λ (a : ℕ) (m : Bool). Observed a m (later g (moment (waiting (s .outbox)) (answerFor (s .replies)) h)) (turned h (turnAt b i) .station))
       (sym (hears-lasting t h .address ∙ ready-lasting s .address)) (sym (hears-lasting t h .master ∙ ready-lasting s .master)) (seat-later h)
 
 -- ---- any calls
@@ -140,41 +139,41 @@ module _ (i : ℕ) where
         one-turn j (answeringMore (turnAt b j) e)
         (λ l v. record { address = v .address; master = v .master; admitted = v .admitted; marked = v .marked; since = v .since; share = v .share })
 
-    slot-followed : (h : Sound) → Followed (slotHeard b h) (later g (momentAt b i h))
+  module _ (b : Bus) (r : Reachable b) (k : Known) (v : Account i b k) (w : Followed b (k .history)) where
+    slot-followed : (h : Sound) → Followed (slotHeard b h) (later (k .history) (momentIn k h))
     unfolding slotHeard
     slot-followed h =
         record {
           idle = λ e. absurd (true≢false e);
           observed = λ l.
               let l = rw (attached-slot b h) at l in
-              subst (TurnObserved (later g (momentAt b i h))) (sym (slot-seat b h i (reachable-fit r .array) l))
-              (turn-later b r i l g (w .observed l) h);
+              subst₂ (λ (ts : List Telegram) (f : Answers). TurnObserved (later (k .history) (moment ts f h)) (turnAt (slotHeard b h) i))
+              (sym (v .held l)) (sym (v .answers l))
+              (subst (TurnObserved (later (k .history) (moment (waiting (stationAt b i .outbox)) (answerFor (stationAt b i .replies)) h)))
+              (sym (slot-seat b h i (reachable-fit r .array) l)) (turn-later b r i l (k .history) (w .observed l) h));
         }
 
-    call-followed : (c : Call) → Followed (afterCall b c) (seenCall i b g c)
+    call-followed : (c : Call) → Followed (afterCall b c) (seenCall b k c)
     unfolding slotRun
-    call-followed (attach a m) = attach-followed (did-attach b a m)
-    call-followed (queue qq zz pb sb bytes) = queue-followed (did-queue b qq zz pb sb bytes)
-    call-followed (reply a pb sb bytes) = reply-followed (did-reply b a pb sb bytes)
+    call-followed (attach a m) = attach-followed b r w (did-attach b a m)
+    call-followed (queue qq zz pb sb bytes) = queue-followed b r w (did-queue b qq zz pb sb bytes)
+    call-followed (reply a pb sb bytes) = reply-followed b r w (did-reply b a pb sb bytes)
     call-followed slot = slot-followed (spoken b)
     call-followed (heard h) = slot-followed h
 
-  calls-followed : (b : Bus) (g : History) (cs : List Call) → Reachable b → ByteCalls cs → Followed b g → Followed (afterCalls b cs) (seenCalls i b g cs)
-  unfolding afterCalls seenCalls
-  calls-followed b g [] r k w = w
-  calls-followed b g (c ∷ cs) r k w =
-      calls-followed (afterCall b c) (seenCall i b g c) cs (reachable-more c r (k .0)) (k .1) (call-followed b r w c)
+  calls-followed : (b : Bus) (k : Known) (cs : List Call) → Reachable b → ByteCalls cs → Account i b k → Followed b (k .history)
+      → Followed (afterCalls b cs) (knownCalls i b k cs .history)
+  unfolding afterCalls knownCalls
+  calls-followed b k [] r y v w = w
+  calls-followed b k (c ∷ cs) r y v w =
+      calls-followed (afterCall b c) (knownCall i b k c) cs (reachable-more c r (y .0)) (y .1) (account-call i b r k v c) (call-followed b r k v w c)
 
   on-followed : Followed poweredOn nothing
   unfolding poweredOn attachedTo
   on-followed = record { idle = λ _. refl; observed = λ l. absurd (not-suc-le-zero l) }
 
-  on-reachable : Reachable poweredOn
-  unfolding afterCalls
-  on-reachable = by-calls [] tt
-
   followed : (cs : List Call) → ByteCalls cs → Followed (afterCalls poweredOn cs) (seen i cs)
-  followed cs k = calls-followed poweredOn nothing cs on-reachable k on-followed
+  followed cs y = calls-followed poweredOn unknown cs on-reachable y (on-account i) on-followed
 
 -- ---- the theorem
 
@@ -183,19 +182,26 @@ module _ (cs : List Call) (bytes : ByteCalls cs) (i : ℕ) (attached : i < attac
   abbrev bus : Bus
   bus = afterCalls poweredOn cs
 
-  abbrev its : Station
-  its = stationAt bus i
+  -- who it is, by the calls
+  abbrev its : Who
+  its = stationBy i cs
+
+  -- its state is what the calls brought
+  by-its-calls : (P : Who → List Telegram → Answers → Type 0)
+      → P (whoOf (turnAt bus i)) (waiting (stationAt bus i .outbox)) (answerFor (stationAt bus i .replies)) → P its (heldBy i cs) (answersBy i cs)
+  by-its-calls P p =
+      let v = account i cs bytes in
+      subst₂ (λ (ts : List Telegram) (f : Answers). P its ts f) (sym (v .held attached)) (sym (v .answers attached))
+      (subst (λ (w : Who). P w (waiting (stationAt bus i .outbox)) (answerFor (stationAt bus i .replies))) (sym (v .seated .each i attached)) p)
 
   -- what it says in the next slot
-  pub says-as-observed : saidBy (turnAt bus i) ≡ observer.says (its .address) (its .master) (seen i cs) (waiting (its .outbox)) (its .replies)
-  says-as-observed = seat-says bus (by-calls cs bytes) i attached (seen i cs) (followed i cs bytes .observed attached)
+  pub says-as-observed : saidBy (turnAt bus i) ≡ observer.says (its .address) (its .master) (seen i cs) (heldBy i cs) (answersBy i cs)
+  says-as-observed =
+      by-its-calls (λ w ts f. saidBy (turnAt bus i) ≡ observer.says (w .address) (w .master) (seen i cs) ts f)
+      (seat-says bus (by-calls cs bytes) i attached (seen i cs) (followed i cs bytes .observed attached))
 
-  -- what it is told in it, whatever all hear
-  pub tells-as-observed : (h : Sound)
-      → reportOf (turnAt (slotHeard bus h) i .told) ≡ observer.tells (its .address) (its .master) (seen i cs) (waiting (its .outbox)) (its .replies) h
-  tells-as-observed h =
-      ap (λ (t : Turn). reportOf (t .told)) (slot-seat bus h i (reachable-fit (by-calls cs bytes) .array) attached)
-      ∙ seat-tells bus (by-calls cs bytes) i attached (seen i cs) (followed i cs bytes .observed attached) h
+  abbrev report : Sound → Report
+  report h = observer.tells (its .address) (its .master) (seen i cs) (heldBy i cs) (answersBy i cs) h
 
   abbrev after : Sound → Turn
   after h = turnAt (slotHeard bus h) i
@@ -203,27 +209,37 @@ module _ (cs : List Call) (bytes : ByteCalls cs) (i : ℕ) (attached : i < attac
   same-turn : (h : Sound) → after h ≡ turned h (turnAt bus i)
   same-turn h = slot-seat bus h i (reachable-fit (by-calls cs bytes) .array) attached
 
-  abbrev report : Sound → Report
-  report h = observer.tells (its .address) (its .master) (seen i cs) (waiting (its .outbox)) (its .replies) h
+  -- what it is told in it, whatever all hear
+  pub tells-as-observed : (h : Sound)
+      → reportOf (turnAt (slotHeard bus h) i .told) ≡ observer.tells (its .address) (its .master) (seen i cs) (heldBy i cs) (answersBy i cs) h
+  tells-as-observed h =
+      ap (λ (t : Turn). reportOf (t .told)) (same-turn h)
+      ∙ by-its-calls (λ w ts f. reportOf (turned h (turnAt bus i) .told) ≡ observer.tells (w .address) (w .master) (seen i cs) ts f h)
+      (seat-tells bus (by-calls cs bytes) i attached (seen i cs) (followed i cs bytes .observed attached) h)
 
   -- what it hands out was heard: the symbols are exactly the wire form of the part in its line
   pub handed-out-as-heard : (h : Sound) → HandsOut (observer.shareOf (its .address) (its .master) (seen i cs)) h (report h) (after h .station .part)
   handed-out-as-heard h =
       subst (λ (t : Turn). HandsOut (observer.shareOf (its .address) (its .master) (seen i cs)) h (report h) (t .station .part)) (sym (same-turn h))
-      (seat-hands bus (by-calls cs bytes) i attached (seen i cs) (followed i cs bytes .observed attached) h)
+      (by-its-calls
+      (λ w ts f.
+      HandsOut (observer.shareOf (w .address) (w .master) (seen i cs)) h (observer.tells (w .address) (w .master) (seen i cs) ts f h)
+      (turned h (turnAt bus i) .station .part))
+      (seat-hands bus (by-calls cs bytes) i attached (seen i cs) (followed i cs bytes .observed attached) h))
 
   -- its lines are those of the report, with its address and that part
   pub lines-as-observed : (h : Sound) → tells (after h) ≡ lines (its .address) (report h) (after h .station .part)
   unfolding tells
   lines-as-observed h =
+      let s = stationAt bus i in
       let e : after h .station .address ≡ its .address =
-      ap (λ (t : Turn). t .station .address) (same-turn h) ∙ hears-lasting (ready its) h .address ∙ ready-lasting its .address in
+      ap (λ (t : Turn). t .station .address) (same-turn h) ∙ hears-lasting (ready s) h .address ∙ ready-lasting s .address
+      ∙ ap (λ (w : Who). w .address) (station-by-calls cs bytes i attached) in
       lines-are (after h .told) (after h .station .address) (after h .station .part)
       ∙ ap₂ (λ (a : ℕ) (r : Report). lines a r (after h .station .part)) e (tells-as-observed h)
 
   -- the telegram held longest leaves its queue exactly where free is told
-  pub left-as-observed : (h : Sound) → waiting (after h .station .outbox) ≡ leftBy (report h) (waiting (its .outbox))
+  pub left-as-observed : (h : Sound) → waiting (after h .station .outbox) ≡ leftBy (report h) (heldBy i cs)
   left-as-observed h =
-      ap (λ (t : Turn). waiting (t .station .outbox)) (same-turn h)
-      ∙ seat-left bus (by-calls cs bytes) i attached (seen i cs) (followed i cs bytes .observed attached) h
-      ∙ ap (λ (r : Report). leftBy r (waiting (its .outbox))) (ap (λ (t : Turn). reportOf (t .told)) (sym (same-turn h)) ∙ tells-as-observed h)
+      slot-held bus (by-calls cs bytes) i attached h
+      ∙ ap₂ leftBy (tells-as-observed h) (held-by-calls cs bytes i attached)

@@ -12,11 +12,9 @@ use Rattle.wire.specs.declared.part.Part.the-variants.{MasterPart, AnswerPart}
 use Rattle.wire.specs.declared.reader.Outcome.{Outcome}
 use Rattle.wire.specs.declared.reader.Outcome.the-variants.{More, Cut, NoMaster, Unusable, TooLong, BrokenPair, Whole}
 use Rattle.wire.proofs.SymbolKind.{clash}
-use Rattle.station.specs.Replies.{answerFor}
 use Rattle.station.specs.declared.phase.Sound.{Sound}
 use Rattle.station.specs.declared.phase.Sound.the-variants.{Quiet, Symbol}
-use Rattle.station.specs.declared.replies.ReplyBook.{ReplyBook}
-use Rattle.history.specs.Moments.{isSymbol}
+use Rattle.history.specs.Moments.{Answers, isSymbol}
 use Rattle.history.specs.Share.{Time, once, again, Sender, owner, slave, Reader, station, asker, Share}
 use Rattle.history.specs.Share as share
 use Rattle.history.specs.Verdict.{Plainly, bytes, waits, broken, unexpanded, afterNn, verdict}
@@ -49,7 +47,7 @@ answer-comes-to (n ∷ xs) = by (leb n 16) (after-nn [] n (unexpanded xs))
     by true w = w
     by false w = too-long
 
-module _ (book : ReplyBook) where
+module _ (book : Answers) where
   -- a leaf that tells no failure, or this one
   none : {A : Type 0} {k : ℕ} → 0 ≡ k → 1 ≤ k → A
   none e l = absurd (omega arith)
@@ -156,14 +154,14 @@ module _ (book : ReplyBook) where
           it-is (answer-not-acknowledged (record { not-ack = eqb-false b 0x00 p; not-nak = eqb-false b 0xFF q; not-syn = eqb-false b 0xAA r })) e
 
   owes-why : (pb sb : ℕ) (h : Sound) {k : ℕ} → numberIn (tellsIn (share.owes pb sb) book h) ≡ k → 1 ≤ k → Fails book k (share.owes pb sb) h
-  owes-why pb sb h {k} e l = by (answerForm (answerFor book pb sb)) refl e
+  owes-why pb sb h {k} e l = by (answerForm (book pb sb)) refl e
     where
-      one : (y : ℕ) (ys : List ℕ) (q : Bool) → answerForm (answerFor book pb sb) ≡ y ∷ ys → isSymbol y h ≡ q
+      one : (y : ℕ) (ys : List ℕ) (q : Bool) → answerForm (book pb sb) ≡ y ∷ ys → isSymbol y h ≡ q
           → numberIn (cond q silence (failed 1)) ≡ k → Fails book k (share.owes pb sb) h
       one y ys true i j e = none e l
       one y ys false i j e = it-is (disturbed-first i j) e
 
-      by : (fs : List ℕ) → answerForm (answerFor book pb sb) ≡ fs → numberIn (tellsFirst fs h) ≡ k → Fails book k (share.owes pb sb) h
+      by : (fs : List ℕ) → answerForm (book pb sb) ≡ fs → numberIn (tellsFirst fs h) ≡ k → Fails book k (share.owes pb sb) h
       by [] i e = none e l
       by (y ∷ ys) i e = one y ys (isSymbol y h) i refl e
 

@@ -22,7 +22,6 @@ use Rattle.wire.proofs.SymbolKind.{clash, kind-syn}
 use Rattle.station.specs.Events.{eventsAs}
 use Rattle.station.specs.Hear.{hears}
 use Rattle.station.specs.Outbox.{waiting}
-use Rattle.station.specs.Replies.{answerFor}
 use Rattle.station.specs.declared.outbox.Outbox.{Outbox}
 use Rattle.wire.specs.declared.part.Part.{Part}
 use Rattle.station.specs.declared.phase.Attempt.{Attempt}
@@ -32,13 +31,12 @@ use Rattle.station.specs.declared.phase.Sound.{Sound}
 use Rattle.station.specs.declared.phase.Sound.the-variants.{Quiet, Symbol}
 use Rattle.station.specs.declared.phase.Told.{Told}
 use Rattle.station.specs.declared.phase.Told.the-variants.{Silence, Owns, Taken, Failed, Free, FailedFree, Given, Answered}
-use Rattle.station.specs.declared.replies.ReplyBook.{ReplyBook}
 use Rattle.station.specs.declared.station.Station.{Station}
 use Rattle.station.proofs.Aa.{NoSyn, symbol}
 use Rattle.station.proofs.Turned.{outboxAfter}
 use Rattle.station.proofs.Waiting.{Kept, dropped-rest, dropped-none}
 use Rattle.promises.proofs.Shared.PartAfter.{PartAfter, is-oldest, is-read, reading-kept, silent-kept, sending-kept, awaiting-kept, judging-kept, owing-kept, releasing-kept, part-after}
-use Rattle.history.specs.Moments.{isSymbol}
+use Rattle.history.specs.Moments.{Answers, isSymbol}
 use Rattle.history.specs.Share.{Sender, owner, slave, Reader, station, asker, Time, once, again, Share, readsForAll, whichOf}
 use Rattle.history.specs.Share as share
 use Rattle.history.specs.Verdict.{verdict}
@@ -206,20 +204,20 @@ none-first [] h = record { mute = refl }
 none-first (y ∷ ys) h = either (isSymbol y h) (record { mute = refl }) (record { mute = refl })
 
 -- AA hands nothing out
-pub none-syn : (u : Share) (book : ReplyBook) {t : Telegram} → HandsOut u (Symbol 0xAA) (tellsIn u book (Symbol 0xAA)) t
+pub none-syn : (u : Share) (book : Answers) {t : Telegram} → HandsOut u (Symbol 0xAA) (tellsIn u book (Symbol 0xAA)) t
 none-syn share.over book = nothing (record { mute = refl })
 none-syn share.releases book = nothing (record { mute = refl })
 none-syn (share.sends d n y zs) book = nothing (either (eqb y 0xAA) (none-out d zs) (none-disturbed d))
 none-syn (share.awaits d n) book = nothing (none-cut d)
 none-syn (share.reads r n xs) book = nothing (none-owner r (record { mute = refl }))
 none-syn (share.judges r n xs matched just) book = nothing (none-owner r (record { mute = refl }))
-none-syn (share.owes pb sb) book = nothing (none-first (answerForm (answerFor book pb sb)) (Symbol 0xAA))
+none-syn (share.owes pb sb) book = nothing (none-first (answerForm (book pb sb)) (Symbol 0xAA))
 
 pub none-owns : {u : Share} {h : Sound} {t : Telegram} → HandsOut u h owns t
 none-owns = nothing (record { mute = refl })
 
 -- an answer that is owed is as good as begun
-pub begun-hands : (u : Share) (book : ReplyBook) (h : Sound) {t : Telegram} → HandsOut (begun u book) h (tellsIn (begun u book) book h) t
+pub begun-hands : (u : Share) (book : Answers) (h : Sound) {t : Telegram} → HandsOut (begun u book) h (tellsIn (begun u book) book h) t
     → HandsOut u h (tellsIn u book h) t
 begun-hands share.over book h w = w
 begun-hands share.releases book h w = w
@@ -227,11 +225,11 @@ begun-hands (share.sends d n y zs) book h w = w
 begun-hands (share.awaits d n) book h w = w
 begun-hands (share.reads r n xs) book h w = w
 begun-hands (share.judges r n xs matched just) book h w = w
-begun-hands (share.owes pb sb) book h w = nothing (none-first (answerForm (answerFor book pb sb)) h)
+begun-hands (share.owes pb sb) book h w = nothing (none-first (answerForm (book pb sb)) h)
 
 -- ---- a station
 
-module _ (s : Station) (book : ReplyBook) (held : s .phase ≡ Owing → ⊥) where
+module _ (s : Station) (book : Answers) (held : s .phase ≡ Owing → ⊥) where
   abbrev part-of : Sound → Telegram
   part-of h = hears s h .station .part
 

@@ -19,7 +19,6 @@ use Rattle.station.specs.Station.{ready, says}
 use Rattle.station.specs.declared.phase.Since.{Since}
 use Rattle.station.specs.declared.phase.Sound.{Sound}
 use Rattle.station.specs.declared.phase.Sound.the-variants.{Quiet, Symbol}
-use Rattle.station.specs.declared.replies.ReplyBook.{ReplyBook}
 use Rattle.station.specs.declared.station.Station.{Station}
 use Rattle.station.proofs.Aa.{IsSyn, aa, NoSyn, symbol, by-sound}
 use Rattle.station.proofs.AfterSyn.{after-syn}
@@ -28,7 +27,7 @@ use Rattle.station.proofs.Possible.{Possible, ready-possible}
 use Rattle.station.proofs.Waiting.{Kept, oldest-first}
 use Rattle.promises.proofs.Shared.Outgoing.{Outgoing, AllOut}
 use Rattle.laws.proofs.FirstIs.{Every, next}
-use Rattle.history.specs.Moments.{Moment, History, closed, extended}
+use Rattle.history.specs.Moments.{Answers, Moment, History, closed, extended}
 use Rattle.history.specs.Seen.{later}
 use Rattle.history.specs.Share.{Share, station, once}
 use Rattle.history.specs.Share as share
@@ -64,8 +63,8 @@ module _ (s₀ : Station) (kept : Kept (s₀ .outbox)) (array : Sixteen (s₀ .p
   abbrev ws : List Telegram
   ws = waiting (s₀ .outbox)
 
-  abbrev book : ReplyBook
-  book = s₀ .replies
+  abbrev book : Answers
+  book = answerFor (s₀ .replies)
 
   abbrev s : Station
   s = ready s₀

@@ -10,19 +10,15 @@ use lib.Dec.{eqb}
 use Rattle.wire.specs.Form.{answerForm}
 use Rattle.wire.specs.declared.reader.Outcome.{Outcome}
 use Rattle.wire.specs.declared.reader.Outcome.the-variants.{More, Cut, NoMaster, Unusable, TooLong, BrokenPair, Whole}
-use Rattle.station.specs.Outbox.{waiting}
-use Rattle.station.specs.Replies.{answerFor}
 use Rattle.station.specs.declared.phase.Sound.{Sound}
 use Rattle.station.specs.declared.phase.Sound.the-variants.{Quiet, Symbol}
-use Rattle.station.specs.declared.replies.ReplyBook.{ReplyBook}
-use Rattle.station.specs.declared.station.Station.{Station}
 use Rattle.bus.specs.declared.bus.Bus.{Bus}
 use Rattle.bus.specs.Bus.{poweredOn, attachedTo, turnAt}
 use Rattle.bus.specs.Slot.{slotHeard}
 use Rattle.promises.specs.Calls.{Call, afterCalls, ByteCalls}
-use Rattle.promises.specs.Fit.{stationAt}
-use Rattle.history.specs.Moments.{isSymbol, History}
-use Rattle.history.specs.Seen.{momentAt, seen}
+use Rattle.history.specs.Moments.{Answers, isSymbol, History}
+use Rattle.history.specs.Seen.{momentIn, known, seen, heldBy, answersBy, stationBy}
+use Rattle.history.specs.Held.{Who}
 use Rattle.history.specs.Share.{Time, once, again, Sender, owner, slave, Reader, station, asker, Share, readsForAll, whichOf}
 use Rattle.history.specs.Share as share
 use Rattle.history.specs.Verdict.{verdict}
@@ -91,7 +87,7 @@ first-other : (fs : List ℕ) (h : Sound) → Other (tellsFirst fs h)
 first-other [] h = record { not-owns = refl }
 first-other (y ∷ ys) h = either (isSymbol y h) (record { not-owns = refl }) (record { not-owns = refl })
 
-tells-other : (u : Share) (book : ReplyBook) (h : Sound) → Other (tellsIn u book h)
+tells-other : (u : Share) (book : Answers) (h : Sound) → Other (tellsIn u book h)
 tells-other share.over book h = record { not-owns = refl }
 tells-other share.releases book h = record { not-owns = refl }
 tells-other (share.sends d n y zs) book h = either (isSymbol y h) (out-other d zs) (disturbed-other d)
@@ -106,7 +102,7 @@ tells-other (share.judges r n xs matched just) book (Symbol b) =
     either (eqb b 0x00) (either matched (hands-other r) (owner-other r (record { not-owns = refl })))
     (either (eqb b 0xFF) (owner-other r (nak-other n))
     (either (eqb b 0xAA) (owner-other r (record { not-owns = refl })) (owner-other r (record { not-owns = refl }))))
-tells-other (share.owes pb sb) book h = first-other (answerForm (answerFor book pb sb)) h
+tells-other (share.owes pb sb) book h = first-other (answerForm (book pb sb)) h
 
 -- ---- the sentences
 
@@ -114,8 +110,8 @@ module _ (cs : List Call) (bytes : ByteCalls cs) (i : ℕ) (attached : i < attac
   abbrev bus : Bus
   bus = afterCalls poweredOn cs
 
-  abbrev its : Station
-  its = stationAt bus i
+  abbrev its : Who
+  its = stationBy i cs
 
   abbrev g : History
   g = seen i cs
@@ -126,9 +122,9 @@ module _ (cs : List Call) (bytes : ByteCalls cs) (i : ℕ) (attached : i < attac
 
   -- it sends its QQ in this slot, which is the one after an AA that admits it, with a telegram waiting; and it hears its address
   abbrev Wins : Sound → Bool
-  Wins h = observer.wins (its .address) (its .master) g (waiting (its .outbox)) h
+  Wins h = observer.wins (its .address) (its .master) g (heldBy i cs) h
 
-  in-turn : (h : Sound) → told h ≡ cond (Wins h) owns (tellsIn (shareOf (its .address) (its .master) g) (its .replies) h)
+  in-turn : (h : Sound) → told h ≡ cond (Wins h) owns (tellsIn (shareOf (its .address) (its .master) g) (answersBy i cs) h)
   unfolding observer.tells
   in-turn h = tells-as-observed cs bytes i attached h
 
@@ -139,24 +135,24 @@ module _ (cs : List Call) (bytes : ByteCalls cs) (i : ℕ) (attached : i < attac
       by : (q : Bool) → Wins h ≡ q → (told h ≡ owns) ↔ (Wins h ≡ true)
       by true e = ((λ _. e), (λ _. in-turn h ∙ rw e))
       by false e =
-          let t : told h ≡ tellsIn (shareOf (its .address) (its .master) g) (its .replies) h = in-turn h ∙ rw e in (
-            (λ j. absurd (true≢false (sym (ap isOwns (sym t ∙ j)) ∙ tells-other (shareOf (its .address) (its .master) g) (its .replies) h .not-owns))),
+          let t : told h ≡ tellsIn (shareOf (its .address) (its .master) g) (answersBy i cs) h = in-turn h ∙ rw e in (
+            (λ j. absurd (true≢false (sym (ap isOwns (sym t ∙ j)) ∙ tells-other (shareOf (its .address) (its .master) g) (answersBy i cs) h .not-owns))),
             (λ j. absurd (false≢true (sym e ∙ j))),
           )
 
   -- failed k, exactly then
-  pub failed-exactly-when : (h : Sound) (k : ℕ) → 1 ≤ k → (numberIn (told h) ≡ k) ↔ Fails (its .replies) k (shareOf (its .address) (its .master) g) h
+  pub failed-exactly-when : (h : Sound) (k : ℕ) → 1 ≤ k → (numberIn (told h) ≡ k) ↔ Fails (answersBy i cs) k (shareOf (its .address) (its .master) g) h
   unfolding shareOf
   failed-exactly-when h k l = by (Wins h) refl
     where
-      by : (q : Bool) → Wins h ≡ q → (numberIn (told h) ≡ k) ↔ Fails (its .replies) k (shareOf (its .address) (its .master) g) h
+      by : (q : Bool) → Wins h ≡ q → (numberIn (told h) ≡ k) ↔ Fails (answersBy i cs) k (shareOf (its .address) (its .master) g) h
       by true e =
           let t : told h ≡ owns = in-turn h ∙ rw e in (
             (λ j. let z : 0 ≡ k = sym (ap numberIn t) ∙ j in absurd (omega arith)),
-            (λ f. absurd (reader-never (its .replies) f (before-won (momentAt bus i h) (its .address) (its .master) (g .earlier) (g .now) e))),
+            (λ f. absurd (reader-never (answersBy i cs) f (before-won (momentIn (known i cs) h) (its .address) (its .master) (g .earlier) (g .now) e))),
           )
       by false e =
-          let t : told h ≡ tellsIn (shareOf (its .address) (its .master) g) (its .replies) h = in-turn h ∙ rw e in (
-            (λ j. why (its .replies) (shareOf (its .address) (its .master) g) h (sym (ap numberIn t) ∙ j) l),
-            (λ f. ap numberIn t ∙ then-told (its .replies) f),
+          let t : told h ≡ tellsIn (shareOf (its .address) (its .master) g) (answersBy i cs) h = in-turn h ∙ rw e in (
+            (λ j. why (answersBy i cs) (shareOf (its .address) (its .master) g) h (sym (ap numberIn t) ∙ j) l),
+            (λ f. ap numberIn t ∙ then-told (answersBy i cs) f),
           )

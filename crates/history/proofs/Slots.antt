@@ -55,7 +55,6 @@ use Rattle.station.specs.declared.phase.Told.{Told}
 use Rattle.station.specs.declared.phase.Told.the-variants.{Silence, Taken, Failed, Free, FailedFree, Given, Answered}
 use Rattle.station.specs.declared.phase.Sound.{Sound}
 use Rattle.station.specs.declared.phase.Sound.the-variants.{Quiet, Symbol}
-use Rattle.station.specs.declared.replies.ReplyBook.{ReplyBook}
 use Rattle.station.specs.declared.station.Station.{Station}
 use Rattle.station.specs.declared.station.Turn.{Turn}
 use Rattle.station.specs.Outbox.{waiting, oldestOf}
@@ -65,7 +64,7 @@ use Rattle.station.proofs.Aa.{aa}
 use Rattle.promises.proofs.Shared.Outgoing.{Outgoing}
 use Rattle.promises.proofs.Shared.AtPhase.{quiet-at, symbol-at}
 use Rattle.promises.proofs.Taken.SenderHeard.{due-is, sent-last, sent-more}
-use Rattle.history.specs.Moments.{Moment, isSymbol}
+use Rattle.history.specs.Moments.{Answers, Moment, isSymbol}
 use Rattle.history.specs.Share as share
 use Rattle.history.specs.Verdict.{verdict}
 use Rattle.history.specs.Share.{Time, once, again, Sender, owner, slave, Reader, station, asker, Share, symbolsOf, toAll, whichOf, zzIn, pbIn, sbIn, forIt, readsOn, ends, fails, ifMore, handed, readSoFar, readEnded, ownSent}
@@ -429,10 +428,10 @@ module _ (x : Station) (n : Time) (xs : List ℕ) (b : ℕ) (clear : b ≡ 0xAA 
 
 -- ---- a slot without AA, of a station that has no answer to make ready and does not win the wire
 
-abbrev pub moment : List Telegram → ReplyBook → Sound → Moment
-moment ws book h = record { waits = ws; replies = book; heard = h }
+abbrev pub moment : List Telegram → Answers → Sound → Moment
+moment ws book h = record { waits = ws; answers = book; heard = h }
 
-module _ (s : Station) (array : Sixteen (s .part .load)) (held : s .phase ≡ Owing → ⊥) (ws : List Telegram) (book : ReplyBook) where
+module _ (s : Station) (array : Sixteen (s .part .load)) (held : s .phase ≡ Owing → ⊥) (ws : List Telegram) (book : Answers) where
   pub quiet-comes : {u : Share} → MatchesIn s u → Comes (next u (moment ws book Quiet)) (tellsIn u book Quiet) (hears s Quiet)
   unfolding released
   quiet-comes {u} m = go (s .phase) refl m
@@ -507,10 +506,10 @@ form-two : (t : Telegram) → (z : ℕ) × (zs : List ℕ) × (telegramForm t �
 unfolding telegramForm form covered
 form-two t = (_, _, refl)
 
-own-first : (t : Telegram) (ws : List Telegram) (book : ReplyBook) → ownSent t (moment ws book (Symbol (t .qq)) ∷ []) ≡ share.sends (owner t) once (form-two t .0) (form-two t .1)
+own-first : (t : Telegram) (ws : List Telegram) (book : Answers) → ownSent t (moment ws book (Symbol (t .qq)) ∷ []) ≡ share.sends (owner t) once (form-two t .0) (form-two t .1)
 own-first t ws book = rw (form-two t .2, eq-eqb (t .qq) (t .qq) refl)
 
-module _ (s : Station) (ws : List Telegram) (book : ReplyBook) (b : ℕ) (other : kindOf b ≡ Syn → ⊥) (possible : Possible s) where
+module _ (s : Station) (ws : List Telegram) (book : Answers) (b : ℕ) (other : kindOf b ≡ Syn → ⊥) (possible : Possible s) where
   won-turn : bids s ≡ true → b ≡ s .address → hears s (Symbol b) ≡ owned (noted s)
   unfolding hearReading hearBid noted
   won-turn e i =
@@ -534,7 +533,7 @@ module _ (s : Station) (ws : List Telegram) (book : ReplyBook) (b : ℕ) (other 
 
 -- ---- AA
 
-module _ (s : Station) (array : Sixteen (s .part .load)) (held : s .phase ≡ Owing → ⊥) (book : ReplyBook) where
+module _ (s : Station) (array : Sixteen (s .part .load)) (held : s .phase ≡ Owing → ⊥) (book : Answers) where
   first-clear : (xs ys : List ℕ) {y : ℕ} {fs : List ℕ} → NoSyn fs → fs ≡ xs ++ (y ∷ ys) → y ≡ 0xAA → ⊥
   first-clear xs ys {y} {fs} n f e =
       no-syn-at n (length xs) (omega (arith, ap length f, length-append xs (y ∷ ys))) (ap (λ (l : List ℕ). getD l (length xs) 0) f ∙ at-seam xs y ys ∙ e)
@@ -582,26 +581,26 @@ module _ (s : Station) (array : Sixteen (s .part .load)) (held : s .phase ≡ Ow
 -- ---- as a slot begins
 
 -- a slave that owes an answer takes it from its entries
-abbrev pub begun : Share → ReplyBook → Share
+abbrev pub begun : Share → Answers → Share
 begun share.over book = share.over
 begun share.releases book = share.releases
 begun (share.sends d n y zs) book = share.sends d n y zs
 begun (share.awaits d n) book = share.awaits d n
 begun (share.reads r n xs) book = share.reads r n xs
 begun (share.judges r n xs matched just) book = share.judges r n xs matched just
-begun (share.owes pb sb) book = share.answerSent (answerForm (answerFor book pb sb)) []
+begun (share.owes pb sb) book = share.answerSent (answerForm (book pb sb)) []
 
 answer-begins : (l : Load) → (y : ℕ) × (zs : List ℕ) × (answerForm l ≡ y ∷ zs)
 unfolding answerForm form covered
 answer-begins l = (_, _, refl)
 
 module _ (s : Station) (entries : (pb sb : ℕ) → Sixteen (answerFor (s .replies) pb sb)) where
-  pub ready-matches : {u : Share} → MatchesIn s u → MatchesIn (ready s) (begun u (s .replies))
+  pub ready-matches : {u : Share} → MatchesIn s u → MatchesIn (ready s) (begun u (answerFor (s .replies)))
   unfolding ready answering
   ready-matches m = go (s .phase) refl m
     where
       go : (p : Phase) {u : Share} → s .phase ≡ p → Matches (s .address) (s .master) (s .out) (s .part) p u
-          → MatchesIn (readyAt p s) (begun u (s .replies))
+          → MatchesIn (readyAt p s) (begun u (answerFor (s .replies)))
       go p e matches.is-over = rw e matches.is-over
       go p e matches.is-releases = rw e matches.is-releases
       go p e (matches.is-sends {s = d} {n = n} k xs f l w) = rw e (matches.is-sends {s = d} {n = n} k xs f l w)
@@ -654,7 +653,7 @@ ready-access s = begins-access (ready-begins s)
 
 -- ---- what it says
 
-module _ (s : Station) (held : s .phase ≡ Owing → ⊥) (possible : Possible s) (book : ReplyBook) where
+module _ (s : Station) (held : s .phase ≡ Owing → ⊥) (possible : Possible s) (book : Answers) where
   bid-says : bids s ≡ true → says s ≡ Symbol (s .address)
   unfolding says sayBid bids
   bid-says e = rw (bids-at-start s possible e, e)
@@ -685,27 +684,27 @@ module _ (s : Station) (held : s .phase ≡ Owing → ⊥) (possible : Possible 
       go false e = quiet-says m e
 
 -- as the slot begins, an answer that is owed is as good as begun
-pub begun-says : (u : Share) (book : ReplyBook) → saysIn (begun u book) book ≡ saysIn u book
+pub begun-says : (u : Share) (book : Answers) → saysIn (begun u book) book ≡ saysIn u book
 begun-says share.over book = refl
 begun-says share.releases book = refl
 begun-says (share.sends d n y zs) book = refl
 begun-says (share.awaits d n) book = refl
 begun-says (share.reads r n xs) book = refl
 begun-says (share.judges r n xs matched just) book = refl
-begun-says (share.owes pb sb) book = of (answerForm (answerFor book pb sb)) (answer-begins (answerFor book pb sb) .2)
+begun-says (share.owes pb sb) book = of (answerForm (book pb sb)) (answer-begins (book pb sb) .2)
   where
     of : (fs : List ℕ) {y : ℕ} {zs : List ℕ} → fs ≡ y ∷ zs → saysIn (share.answerSent fs []) book ≡ observer.firstOf fs
     of [] e = let z : _≡_ {A = ℕ} 0 1 = cc in absurd (omega arith)
     of (y ∷ zs) e = refl
 
-pub begun-tells : (u : Share) (book : ReplyBook) (h : Sound) → tellsIn (begun u book) book h ≡ tellsIn u book h
+pub begun-tells : (u : Share) (book : Answers) (h : Sound) → tellsIn (begun u book) book h ≡ tellsIn u book h
 begun-tells share.over book h = refl
 begun-tells share.releases book h = refl
 begun-tells (share.sends d n y zs) book h = refl
 begun-tells (share.awaits d n) book h = refl
 begun-tells (share.reads r n xs) book h = refl
 begun-tells (share.judges r n xs matched just) book h = refl
-begun-tells (share.owes pb sb) book h = of (answerForm (answerFor book pb sb)) (answer-begins (answerFor book pb sb) .2)
+begun-tells (share.owes pb sb) book h = of (answerForm (book pb sb)) (answer-begins (book pb sb) .2)
   where
     last : (y : ℕ) (zs : List ℕ) (fs : List ℕ) → cond (isSymbol y h) (tellsOut (slave fs) zs) (observer.failed 1) ≡ cond (isSymbol y h) silence (observer.failed 1)
     last y [] fs = refl
@@ -715,7 +714,7 @@ begun-tells (share.owes pb sb) book h = of (answerForm (answerFor book pb sb)) (
     of [] e = let z : _≡_ {A = ℕ} 0 1 = cc in absurd (omega arith)
     of (y ∷ zs) e = last y zs (y ∷ zs)
 
-pub begun-next : (u : Share) (ws : List Telegram) (book : ReplyBook) (h : Sound) → next (begun u book) (moment ws book h) ≡ next u (moment ws book h)
+pub begun-next : (u : Share) (ws : List Telegram) (book : Answers) (h : Sound) → next (begun u book) (moment ws book h) ≡ next u (moment ws book h)
 begun-next share.over ws book h = refl
 begun-next share.releases ws book h = refl
 begun-next (share.sends d n y zs) ws book h = refl
@@ -723,7 +722,7 @@ begun-next (share.awaits d n) ws book h = refl
 begun-next (share.reads r n xs) ws book h = refl
 begun-next (share.judges r n xs matched just) ws book h = refl
 begun-next (share.owes pb sb) ws book h =
-    sym (answer-sent-steps (moment ws book h) (answerForm (answerFor book pb sb)) [] .goes)
+    sym (answer-sent-steps (moment ws book h) (answerForm (book pb sb)) [] .goes)
 
 -- ---- the mark and what was heard since AA, which only the entry into a slot changes
 

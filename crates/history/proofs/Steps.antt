@@ -9,7 +9,6 @@ use Rattle.wire.specs.Form.{telegramForm, answerForm}
 use Rattle.wire.specs.declared.part.Telegram.{Telegram}
 use Rattle.wire.specs.declared.reader.Outcome.{Outcome}
 use Rattle.wire.specs.declared.reader.Outcome.the-variants.{More, Cut, NoMaster, Unusable, TooLong, BrokenPair, Whole}
-use Rattle.station.specs.Replies.{answerFor}
 use Rattle.station.specs.declared.phase.Sound.{Sound}
 use Rattle.station.specs.declared.phase.Sound.the-variants.{Quiet, Symbol}
 use Rattle.history.specs.Moments.{Moment, bySound, isSymbol}
@@ -110,7 +109,7 @@ module _ (x : Moment) where
 
   answers-steps : (pb sb : ℕ) → Steps x (answers pb sb)
   answers-steps pb sb [] = record { goes = refl }
-  answers-steps pb sb (m ∷ ms) = answer-sent-steps (answerForm (answerFor (m .replies) pb sb)) (m ∷ ms)
+  answers-steps pb sb (m ∷ ms) = answer-sent-steps (answerForm (m .answers pb sb)) (m ∷ ms)
 
   -- a part that is read
   handed-steps : (r : Reader) (xs : List ℕ) (matched : Bool) → Steps x (handed r xs matched)

@@ -8,11 +8,9 @@ use Rattle.wire.specs.Form.{answerForm}
 use Rattle.wire.specs.declared.part.Part.the-variants.{AnswerPart}
 use Rattle.wire.specs.declared.part.Telegram.{Telegram}
 use Rattle.wire.specs.declared.reader.Outcome.the-variants.{BrokenPair}
-use Rattle.station.specs.Replies.{answerFor}
 use Rattle.station.specs.declared.phase.Sound.{Sound}
 use Rattle.station.specs.declared.phase.Sound.the-variants.{Symbol}
-use Rattle.station.specs.declared.replies.ReplyBook.{ReplyBook}
-use Rattle.history.specs.Moments.{isSymbol}
+use Rattle.history.specs.Moments.{Answers, isSymbol}
 use Rattle.history.specs.Share.{Time, again, Sender, asker, Share, sends, awaits, reads, judges, owes}
 use Rattle.history.specs.Verdict.{verdict}
 use Rattle.history.specs.Observer.{Report, silence, owns, taken, free, given, answered, failed, failedFree}
@@ -34,11 +32,11 @@ pub record Another (b : ℕ) : Type 0 where
   pub not-nak : b ≢ 0xFF
   pub not-syn : b ≢ 0xAA
 
--- what a sender or an owner fails by, with its entries as the slot begins and what is heard
-pub data Fails (book : ReplyBook) : ℕ → Share → Sound → Type 0 where
+-- what a sender or an owner fails by, with its answers as the slot begins and what is heard
+pub data Fails (book : Answers) : ℕ → Share → Sound → Type 0 where
   -- 1: it sends its part, the owner or a slave, and hears anything but its own symbol, quiet too
   disturbed : {s : Sender} {n : Time} {y : ℕ} {ys : List ℕ} {h : Sound} → isSymbol y h ≡ false → Fails book 1 (sends s n y ys) h
-  disturbed-first : {pb sb y : ℕ} {ys : List ℕ} {h : Sound} → answerForm (answerFor book pb sb) ≡ y ∷ ys → isSymbol y h ≡ false
+  disturbed-first : {pb sb y : ℕ} {ys : List ℕ} {h : Sound} → answerForm (book pb sb) ≡ y ∷ ys → isSymbol y h ≡ false
       → Fails book 1 (owes pb sb) h
   -- 2: the next symbol after its part is another than 00, FF and AA; likewise after the answer that the owner read
   no-acknowledgement : {s : Sender} {n : Time} {b : ℕ} → Another b → Fails book 2 (awaits s n) (Symbol b)

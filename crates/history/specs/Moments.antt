@@ -3,15 +3,19 @@ use mathlib.Core.Bool.{Bool, false}
 use mathlib.Core.List.{List, [], _∷_, _++_}
 use Prim.Native.Nat.{ℕ}
 use lib.Dec.{eqb}
+use Rattle.wire.specs.declared.part.Load.{Load}
 use Rattle.wire.specs.declared.part.Telegram.{Telegram}
 use Rattle.station.specs.declared.phase.Sound.{Sound}
 use Rattle.station.specs.declared.phase.Sound.the-variants.{Quiet, Symbol}
-use Rattle.station.specs.declared.replies.ReplyBook.{ReplyBook}
+
+-- what a station answers for PB and SB
+abbrev pub Answers : Type 0
+Answers = ℕ → ℕ → Load
 
 pub record Moment : Type 0 where
-  -- as the slot begins: the telegrams that the station holds, oldest first, and its reply entries
+  -- as the slot begins: the telegrams that the station holds, oldest first, and its answers
   pub waits : List Telegram
-  pub replies : ReplyBook
+  pub answers : Answers
   -- what all hear
   pub heard : Sound
 

@@ -9,13 +9,11 @@ use Rattle.wire.specs.declared.part.Telegram.{Telegram}
 use Rattle.wire.specs.declared.reader.Outcome.{Outcome}
 use Rattle.wire.specs.declared.reader.Outcome.the-variants.{More, Cut, NoMaster, Unusable, TooLong, BrokenPair, Whole}
 use Rattle.station.specs.Events.{numberOf}
-use Rattle.station.specs.Replies.{answerFor}
 use Rattle.station.specs.declared.phase.Sound.{Sound}
 use Rattle.station.specs.declared.phase.Sound.the-variants.{Quiet, Symbol}
 use Rattle.station.specs.declared.phase.Told.{Told}
 use Rattle.station.specs.declared.phase.Told.the-variants.{Silence, Owns, Taken, Failed, Free, FailedFree, Given, Answered}
-use Rattle.station.specs.declared.replies.ReplyBook.{ReplyBook}
-use Rattle.history.specs.Moments.{Moment, bySound, isSymbol, History}
+use Rattle.history.specs.Moments.{Answers, Moment, bySound, isSymbol, History}
 use Rattle.history.specs.Verdict.{verdict}
 use Rattle.history.specs.Share.{Time, once, again, Sender, owner, slave, Reader, station, asker, Share, over, releases, sends, awaits, reads, judges, owes, sendsToAll, readsForAll, whichOf, partRead, ownSent}
 use Rattle.history.specs.Admission.{some, admittedBy}
@@ -74,17 +72,17 @@ firstOf (y ∷ ys) = Symbol y
 abbrev pub acknowledges : Bool → Bool → Sound
 acknowledges matched just = cond just (cond matched (Symbol 0x00) (Symbol 0xFF)) Quiet
 
-abbrev pub saysIn : Share → ReplyBook → Sound
+abbrev pub saysIn : Share → Answers → Sound
 saysIn over book = Quiet
 saysIn releases book = Symbol 0xAA
 saysIn (sends s n y ys) book = Symbol y
 saysIn (awaits s n) book = Quiet
 saysIn (reads r n xs) book = Quiet
 saysIn (judges r n xs matched just) book = acknowledges matched just
-saysIn (owes pb sb) book = firstOf (answerForm (answerFor book pb sb))
+saysIn (owes pb sb) book = firstOf (answerForm (book pb sb))
 
--- what the station with this address, master or not, says in a slot, with these telegrams and entries as it begins
-unfoldable pub says : ℕ → Bool → History → List Telegram → ReplyBook → Sound
+-- what the station with this address, master or not, says in a slot, with these telegrams and answers as it begins
+unfoldable pub says : ℕ → Bool → History → List Telegram → Answers → Sound
 says a m h waits book = cond (bidding (admittedBy a m (h .earlier)) (h .now) waits) (Symbol a) (saysIn (shareOf a m h) book)
 
 -- ---- what it is told
@@ -138,7 +136,7 @@ abbrev pub tellsFirst : List ℕ → Sound → Report
 tellsFirst [] h = silence
 tellsFirst (y ∷ ys) h = cond (isSymbol y h) silence (failed 1)
 
-abbrev pub tellsIn : Share → ReplyBook → Sound → Report
+abbrev pub tellsIn : Share → Answers → Sound → Report
 tellsIn over book h = silence
 tellsIn releases book h = free
 tellsIn (sends s n y ys) book h = cond (isSymbol y h) (tellsOut s ys) (disturbed s)
@@ -149,13 +147,13 @@ tellsIn (reads r n xs) book h =
 tellsIn (judges r n xs matched just) book h =
     bySound h silence (λ b. cond (eqb b 0x00) (tellsHanded r matched)
     (cond (eqb b 0xFF) (toOwner r (tellsNak n)) (cond (eqb b 0xAA) (toOwner r (failedFree 4)) (toOwner r (failed 2)))))
-tellsIn (owes pb sb) book h = tellsFirst (answerForm (answerFor book pb sb)) h
+tellsIn (owes pb sb) book h = tellsFirst (answerForm (book pb sb)) h
 
 -- it sends its QQ in this slot, and hears its own address: it owns the wire
 abbrev pub wins : ℕ → Bool → History → List Telegram → Sound → Bool
 wins a m h waits heard = cond (bidding (admittedBy a m (h .earlier)) (h .now) waits) (isSymbol a heard) false
 
 -- what it is told in a slot that all hear so
-unfoldable pub tells : ℕ → Bool → History → List Telegram → ReplyBook → Sound → Report
+unfoldable pub tells : ℕ → Bool → History → List Telegram → Answers → Sound → Report
 tells a m h waits book heard =
     cond (wins a m h waits heard) owns (tellsIn (shareOf a m h) book heard)

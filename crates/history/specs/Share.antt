@@ -13,7 +13,6 @@ use Rattle.wire.specs.declared.part.Part.the-variants.{MasterPart, AnswerPart}
 use Rattle.wire.specs.declared.part.Telegram.{Telegram}
 use Rattle.wire.specs.declared.reader.Outcome.{Outcome}
 use Rattle.wire.specs.declared.reader.Outcome.the-variants.{More, Cut, NoMaster, Unusable, TooLong, BrokenPair, Whole}
-use Rattle.station.specs.Replies.{answerFor}
 use Rattle.history.specs.Moments.{Moment, bySound, isSymbol}
 use Rattle.history.specs.Verdict.{verdict}
 
@@ -166,7 +165,7 @@ answerSent xs ms = sent (slave xs) once xs (answerOut xs once (answerAgain xs)) 
 
 abbrev pub answers : ℕ → ℕ → List Moment → Share
 answers pb sb [] = owes pb sb
-answers pb sb (m ∷ ms) = answerSent (answerForm (answerFor (m .replies) pb sb)) (m ∷ ms)
+answers pb sb (m ∷ ms) = answerSent (answerForm (m .answers pb sb)) (m ∷ ms)
 
 -- ---- a part that is read
 
