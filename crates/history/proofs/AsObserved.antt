@@ -22,13 +22,13 @@ use Rattle.bus.specs.declared.bus.Answer.{Answer}
 use Rattle.bus.specs.Bus.{poweredOn, attachedTo, turnAt, withTurn}
 use Rattle.bus.specs.Attach.{newcomer}
 use Rattle.bus.specs.Slot.{saidBy, spoken, turned, slotHeard, slotRun}
-use Rattle.promises.specs.Calls.{Call, attach, queue, reply, slot, heard, afterCall, afterCalls, ByteCalls, Reachable, by-calls}
+use Rattle.promises.specs.Calls.{Call, attach, queue, reply, slot, heard, afterCall, afterCalls, ByteCalls, Reachable}
 use Rattle.promises.specs.Fit.{stationAt}
 use Rattle.promises.proofs.Shared.Arrays.{answer-full}
 use Rattle.promises.proofs.Shared.FitKept.{reachable-fit}
-use Rattle.promises.proofs.Shared.Outgoing.{reachable-more}
 use Rattle.promises.proofs.Shared.Seats.{Did, refused, attached, queued, replied, withNewcomer, holdingMore, answeringMore, attached-turn, turn-same, turn-other, attached-before, attached-newcomer, newcomer-seat, other-seat, did-attach, did-queue, did-reply, attached-slot, slot-seat}
 use Rattle.promises.proofs.Shared.Stations.{reachable-sane}
+use Rattle.promises.proofs.Shared.Uses.{by-calls, on-reachable, reachable-more}
 use Rattle.promises.proofs.Taken.Together.{reachable-together}
 use Rattle.history.specs.Moments.{Answers, History, nothing}
 use Rattle.history.specs.Held.{Who}
@@ -40,7 +40,7 @@ use Rattle.history.proofs.Slots.{moment}
 use Rattle.history.specs.Lines.{lines, HandsOut, leftBy}
 use Rattle.history.specs.Observer.{reportOf, Report}
 use Rattle.history.proofs.HandsOut.{lines-are}
-use Rattle.history.proofs.HeldByCalls.{whoOf, slot-held, Account, account-call, on-account, on-reachable, account, station-by-calls, held-by-calls}
+use Rattle.history.proofs.HeldByCalls.{whoOf, slot-held, Account, account-call, on-account, account, station-by-calls, held-by-calls}
 use Rattle.history.proofs.Shares.{none-admitted}
 
 -- ---- an attached station of a reachable bus

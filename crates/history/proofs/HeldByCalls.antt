@@ -37,13 +37,13 @@ use Rattle.bus.specs.Slot.{spoken, turned, slotHeard, slotRun}
 use Rattle.bus.proofs.DoneChanges.{Queued, Replied, queue-done, reply-done}
 use Rattle.bus.proofs.Reflects.{first-holds}
 use Rattle.promises.specs.Accepted.{telegramOf}
-use Rattle.promises.specs.Calls.{Call, attach, queue, reply, slot, heard, afterCall, afterCalls, ByteCalls, Reachable, by-calls}
+use Rattle.promises.specs.Calls.{Call, attach, queue, reply, slot, heard, afterCall, afterCalls, ByteCalls, Reachable}
 use Rattle.promises.specs.Fit.{stationAt}
 use Rattle.promises.specs.Slots.{verdictOn}
 use Rattle.promises.proofs.AcceptedHeld.{queued-waits, turn-there}
 use Rattle.promises.proofs.Shared.FitKept.{reachable-fit, one-address}
-use Rattle.promises.proofs.Shared.Outgoing.{reachable-more}
 use Rattle.promises.proofs.Shared.Stations.{reachable-sane}
+use Rattle.promises.proofs.Shared.Uses.{on-reachable, reachable-more}
 use Rattle.promises.proofs.Refused.{refused-changes-nothing}
 use Rattle.promises.proofs.Shared.Seats.{Did, refused, attached, queued, replied, withNewcomer, holdingMore, answeringMore, attached-turn, turn-same, turn-other, attached-before, attached-newcomer, newcomer-seat, other-seat, did-attach, did-queue, did-reply, attached-slot, slot-seat}
 use Rattle.history.specs.Held.{isDone, Who, attachedAfter, inSeat, isSource, isSlave, heldAfter, noAnswers, answersWith, answersAfter}
@@ -349,10 +349,6 @@ new-holds a m = none-waiting
 new-gives : (a : ℕ) (m : Bool) → answerFor (newcomer a m .station .replies) ≡ noAnswers
 unfolding newcomer fresh
 new-gives a m = fun-ext (λ pb. fun-ext (λ sb. missing-answer noEntries pb sb (none-missing pb sb)))
-
-pub on-reachable : Reachable poweredOn
-unfolding afterCalls
-on-reachable = by-calls [] tt
 
 module _ (i : ℕ) where
   -- of seat i is known what its station holds and answers, and before it is taken nothing

@@ -19,9 +19,9 @@ use Rattle.walk.specs.declared.field.Field.the-variants.{Master, Slave, Reply, 
 use Rattle.walk.specs.declared.field.Placed.{Placed}
 use Rattle.walk.specs.declared.walk.Moment.the-variants.{Told, Passed, Ended}
 use Rattle.walk.proofs.GoodForm.{dropped-bytes}
-use Rattle.promises.specs.Calls.{attach, queue, reply, slot, heard, AllBytes, Reachable, by-calls, afterCalls}
+use Rattle.promises.specs.Calls.{attach, queue, reply, slot, heard, AllBytes, Reachable}
 use Rattle.promises.proofs.Shared.Arrays.{every-append}
-use Rattle.promises.proofs.Shared.Outgoing.{reachable-more}
+use Rattle.promises.proofs.Shared.Uses.{on-reachable, reachable-more}
 
 -- ---- what a field hands over are bytes
 
@@ -140,5 +140,5 @@ from-reached (suc k) s at b bytes r =
 
 -- the bus of every moment of a scenario
 pub moments-reached : (s : List ℕ) → Bytes s → Every Reached (moments s)
-unfolding moments afterCalls
-moments-reached s bytes = from-reached (length s) s 0 poweredOn bytes (by-calls [] tt)
+unfolding moments
+moments-reached s bytes = from-reached (length s) s 0 poweredOn bytes on-reachable

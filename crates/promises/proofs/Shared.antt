@@ -7,3 +7,4 @@ pub mod Outgoing
 pub mod PartAfter
 pub mod Seats
 pub mod Stations
+pub mod Uses

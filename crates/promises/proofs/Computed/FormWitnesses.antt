@@ -14,9 +14,10 @@ use Rattle.wire.specs.declared.part.Telegram.{Telegram}
 use Rattle.wire.specs.declared.reader.Outcome.the-variants.{Whole}
 use Rattle.bus.specs.declared.refusal.Verdict.the-variants.{Done}
 use Rattle.bus.specs.Bus.{poweredOn}
-use Rattle.promises.specs.Calls.{Call, attach, queue, reply, afterCalls, Reachable, by-calls}
+use Rattle.promises.specs.Calls.{Call, attach, queue, reply, afterCalls, Reachable}
 use Rattle.promises.specs.Slots.{verdictOn}
 use Rattle.promises.proofs.Computed.Runs.{run}
+use Rattle.promises.proofs.Shared.Uses.{by-calls}
 
 -- master 10 and slave 08
 abbrev two : List Call

@@ -8,13 +8,14 @@ use Rattle.station.specs.declared.phase.Sound.the-variants.{Symbol}
 use Rattle.station.specs.declared.phase.Told.{Told}
 use Rattle.station.specs.declared.phase.Told.the-variants.{Taken, Given, Answered}
 use Rattle.bus.specs.Bus.{poweredOn, turnAt, attachedTo}
-use Rattle.promises.specs.Calls.{Call, attach, queue, reply, slot, heard, afterCall, afterCalls, ByteCalls, by-calls}
+use Rattle.promises.specs.Calls.{Call, attach, queue, reply, slot, heard, afterCall, afterCalls, ByteCalls}
 use Rattle.promises.specs.Fit.{stationAt}
 use Rattle.promises.proofs.Computed.Runs.{run}
 use native.Mathlib.Omega.{arith}
 use Rattle.promises.specs.Slots.{undisturbed}
 use Rattle.promises.specs.Transfers.{HandedOut}
 use Rattle.promises.proofs.TakenIsHandedOut.{taken-is-handed-out}
+use Rattle.promises.proofs.Shared.Uses.{by-calls}
 
 -- master 10 and slave 08; 10 sends 50 02 to 08, and the next slot has the 00
 abbrev pub beforeTheAck : List Call

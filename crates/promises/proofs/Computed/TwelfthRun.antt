@@ -18,11 +18,12 @@ use Rattle.station.specs.declared.phase.Told.the-variants.{Silence, Owns}
 use Rattle.bus.specs.Bus.{poweredOn, attachedTo, turnAt}
 use Rattle.bus.specs.Slot.{spoken, slotHeard, slotRun}
 use Rattle.bus.specs.declared.bus.Bus.{Bus}
-use Rattle.promises.specs.Calls.{Call, attach, queue, reply, slot, heard, afterCall, afterCalls, Reachable, by-calls}
+use Rattle.promises.specs.Calls.{Call, attach, queue, reply, slot, heard, afterCall, afterCalls, Reachable}
 use Rattle.promises.specs.Contest.{sent, queued, by-all, between, Contends, LeastRank, OwnsInOneOf}
 use Rattle.promises.specs.Fit.{stationAt}
 use Rattle.promises.proofs.Computed.Runs.{run}
 use Rattle.promises.proofs.TheLeast.{least-rank-owns-by-the-twelfth}
+use Rattle.promises.proofs.Shared.Uses.{by-calls}
 
 -- masters 10, 01 and 00; 10 has a telegram; nine quiet slots
 abbrev pub set-up : List Call

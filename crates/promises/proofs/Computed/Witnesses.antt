@@ -12,12 +12,13 @@ use Rattle.station.specs.declared.phase.Told.the-variants.{Given, Answered}
 use Rattle.bus.specs.declared.refusal.Refusal.the-variants.{InUse}
 use Rattle.bus.specs.declared.refusal.Verdict.the-variants.{Refused}
 use Rattle.bus.specs.Bus.{poweredOn, attachedTo, turnAt}
-use Rattle.promises.specs.Calls.{Call, attach, queue, reply, slot, heard, afterCalls, Reachable, by-calls}
+use Rattle.promises.specs.Calls.{Call, attach, queue, reply, slot, heard, afterCalls, Reachable}
 use Rattle.promises.specs.Fit.{stationAt}
 use Rattle.promises.specs.Heard.{heardSince}
 use Rattle.promises.specs.Orders.{seatsOf}
 use Rattle.promises.specs.Slots.{verdictOn}
 use Rattle.promises.proofs.Computed.Runs.{run}
+use Rattle.promises.proofs.Shared.Uses.{by-calls}
 
 -- slots that all hear as these symbols
 abbrev symbols : List ℕ → List Call

@@ -1,8 +1,8 @@
 -- What a master holds can go over the wire: its own QQ, and a ZZ, PB and SB that the calls let through (01, the table's lines 1 to 3).
 -- Assumes nothing.
-use mathlib.Core.Path.{_≡_, refl, sym, ap, subst, _∙_}
+use mathlib.Core.Path.{_≡_, refl, sym, ap, _∙_}
 use mathlib.Core.Bool.{Bool, true, false, cond, true≢false}
-use mathlib.Core.List.{List, [], _∷_, _++_}
+use mathlib.Core.List.{List, [], _∷_}
 use Prim.Native.Nat.{ℕ, suc, _+_, _<_}
 use native.Mathlib.Omega.{arith}
 use borrow.Author.Tests.{ltb-true, ltb-false}
@@ -39,24 +39,13 @@ use Rattle.bus.specs.Find.{meets, firstOf, isMasterAt}
 use Rattle.bus.specs.Queue.{unusable, noTarget, noCommand, holds, queuesTelegram, queuesFrom, queuesAt, queues}
 use Rattle.bus.proofs.Loops.{attached-fit}
 use Rattle.laws.proofs.FirstIs.{Every, none, next}
-use Rattle.promises.specs.Calls.{Call, afterCall, afterCalls, ByteCall, ByteCalls, Reachable, by-calls}
+use Rattle.promises.specs.Calls.{Call, afterCall, afterCalls, ByteCall, ByteCalls, Reachable}
 use Rattle.promises.specs.Fit.{stationAt, Fit}
 use Rattle.promises.proofs.Shared.Arrays.{every-append}
 use Rattle.promises.proofs.Shared.Seats.{either-false, holdingMore}
+use Rattle.promises.proofs.Shared.Uses.{reached, on-reachable, reachable-more}
 
 -- ---- induction over calls, with the bus before each call reachable
-
-one-call-more : (b : Bus) (cs : List Call) (c : Call) → afterCalls b (cs ++ (c ∷ [])) ≡ afterCall (afterCalls b cs) c
-unfolding afterCalls
-one-call-more b [] c = refl
-one-call-more b (d ∷ cs) c = one-call-more (afterCall b d) cs c
-
-bytes-more : (cs : List Call) (c : Call) → ByteCalls cs → ByteCall c → ByteCalls (cs ++ (c ∷ []))
-bytes-more [] c k j = (j, tt)
-bytes-more (d ∷ cs) c k j = (k .0, bytes-more cs c (k .1) j)
-
-pub reachable-more : {b : Bus} (c : Call) → Reachable b → ByteCall c → Reachable (afterCall b c)
-reachable-more c (by-calls cs k) j = subst Reachable (one-call-more poweredOn cs c) (by-calls (cs ++ (c ∷ [])) (bytes-more cs c k j))
 
 module _ (P : Bus → Type 0) (on : Reachable poweredOn → P poweredOn)
     (step : (b : Bus) (c : Call) → Reachable b → ByteCall c → P b → P (afterCall b c)) where
@@ -65,12 +54,8 @@ module _ (P : Bus → Type 0) (on : Reachable poweredOn → P poweredOn)
   kept-from b [] r k p = p
   kept-from b (c ∷ cs) r k p = kept-from (afterCall b c) cs (reachable-more c r (k .0)) (k .1) (step b c r (k .0) p)
 
-  on-reachable : Reachable poweredOn
-  unfolding afterCalls
-  on-reachable = by-calls [] tt
-
   pub by-reachable : {b : Bus} → Reachable b → P b
-  by-reachable (by-calls cs k) = kept-from poweredOn cs on-reachable k (on on-reachable)
+  by-reachable r = reached P (λ cs k. kept-from poweredOn cs on-reachable k (on on-reachable)) r
 
 -- ---- a telegram that can go out
 

@@ -39,7 +39,8 @@ use Rattle.bus.specs.Slot.{spoken, turned, mapFirst, slotHeard, slotRun}
 use Rattle.bus.proofs.Loops.{attached-fit, length-mapFirst}
 use Rattle.laws.proofs.AtMost.{at-most-same}
 use Rattle.laws.proofs.FirstIs.{Every, none, next}
-use Rattle.promises.specs.Calls.{Call, attach, queue, reply, slot, heard, afterCall, afterCalls, ByteCall, ByteCalls, Reachable, by-calls}
+use Rattle.promises.specs.Calls.{Call, attach, queue, reply, slot, heard, afterCall, afterCalls, ByteCall, ByteCalls, Reachable}
+use Rattle.promises.proofs.Shared.Uses.{reached}
 
 pub either-false : (s t : Bool) → cond s true t ≡ false → (s ≡ false) × (t ≡ false)
 either-false true t e = absurd (true≢false e)
@@ -235,7 +236,7 @@ kept-by-calls P f b (c ∷ cs) k p = kept-by-calls P f (afterCall b c) cs (k .1)
 -- and, where it holds at power-on, of every bus that users can bring about
 pub of-reachable : (P : Bus → Type 0) → P poweredOn → ((b : Bus) (c : Call) → ByteCall c → P b → P (afterCall b c))
     → {b : Bus} → Reachable b → P b
-of-reachable P p f (by-calls cs k) = kept-by-calls P f poweredOn cs k p
+of-reachable P p f r = reached P (λ cs k. kept-by-calls P f poweredOn cs k p) r
 
 -- a call is shown to keep something by what it did, or by its slot
 pub by-call : (P : Bus → Type 0) (b : Bus) → ((c : Call) (x : Answer) → ByteCall c → Did b c x → P (x .bus))
