@@ -31,10 +31,10 @@ front-of (reply a pb sb bytes ∷ cs) u (suc n) l =
     let w = front-of cs (u .1) (suc n) (omega arith) in
     let c = reply a pb sb bytes in
     record { front = c ∷ w .front; others = w .others; whole = ap (λ (k : List Call). c ∷ k) (w .whole); each = (u .0, w .each); slots = omega (arith, w .slots) }
-front-of (attach a m ∷ cs) u (suc n) l = absurd (never (u .0))
-  where
-    never : Undisturbed (attach a m) → ⊥
-    never (between w) = elim w [ ]
+front-of (attach a m ∷ cs) u (suc n) l =
+    let w = front-of cs (u .1) (suc n) (omega arith) in
+    let c = attach a m in
+    record { front = c ∷ w .front; others = w .others; whole = ap (λ (k : List Call). c ∷ k) (w .whole); each = (u .0, w .each); slots = omega (arith, w .slots) }
 front-of (heard h ∷ cs) u (suc n) l = absurd (never (u .0))
   where
     never : Undisturbed (heard h) → ⊥

@@ -98,10 +98,12 @@ syn-fit : (b : Bus) → Fit b → {c : Call} → SynHeardIn b c → Fit (afterCa
 syn-fit b f (sent e) = rw (hears-word b (Symbol syn) e) (slot-fit b (Symbol syn) f)
 syn-fit b f disturbed = slot-fit b (Symbol syn) f
 
-calls-fit : (b : Bus) → Fit b → (cs : List Call) → Each Between cs → Fit (afterCalls b cs)
+calls-fit : (b : Bus) → b .ran ≡ true → Fit b → (cs : List Call) → Each Between cs → Fit (afterCalls b cs)
 unfolding afterCalls
-calls-fit b f [] u = f
-calls-fit b f (c ∷ cs) (k, us) = calls-fit (afterCall b c) (between-fit (between-keeps b k) f) cs us
+calls-fit b e f [] u = f
+calls-fit b e f (c ∷ cs) (k, us) =
+    let w = between-keeps b e k in
+    calls-fit (afterCall b c) (w .ran ∙ e) (between-fit w f) cs us
 
 module _ (b : Bus) (f : Fit b) (g : Begun b) where
   ranked : {j : ℕ} → Contends b j → (r : ℕ) × (rankOf (stationAt b j .address) ≡ Of r)
@@ -127,11 +129,11 @@ pub least-rank-owns-by-the-twelfth : {b : Bus}
     → Reachable b
     -- a SYN is heard in a slot, however it came about
     → (c : Call) → SynHeardIn b c
-    -- then users may queue and set replies, and the next slot begins
+    -- then users may queue, set replies and have an attach refused, and the next slot begins
     → (before : List Call) → Each Between before
     -- there are any that this SYN admits and that have a telegram waiting when that slot begins
     → (j : ℕ) → Contends (afterCalls (afterCall b c) before) j
-    -- that slot and eleven more are undisturbed, with any queue and reply calls between them
+    -- that slot and eleven more are undisturbed, with any such calls between them
     → (calls : List Call) → Each Undisturbed calls → slotsIn (slot ∷ calls) ≡ 12
     -- the one of least rank becomes owner in one of the twelve
     → (i : ℕ) × TheLeast (afterCalls (afterCall b c) before) i × OwnsInOneOf i (afterCalls (afterCall b c) before) (slot ∷ calls)
@@ -139,7 +141,7 @@ least-rank-owns-by-the-twelfth {b} r c s before u j k calls v n =
     let f = reachable-fit r in
     let b₂ = afterCalls (afterCall b c) before in
     let w = some-least b₂ j k in
-    let fit : Fit b₂ = calls-fit (afterCall b c) (syn-fit b f s) before u in
+    let fit : Fit b₂ = calls-fit (afterCall b c) (begun-heard b f s .ran) (syn-fit b f s) before u in
     let begun : Begun b₂ = begun-between (afterCall b c) (begun-heard b f s) before u in (
       w .0,
       record { contends = w .1; least = w .2; only = λ m d l. only-least b₂ fit begun (w .0) m (w .1) (w .2) d l },

@@ -1,6 +1,6 @@
 -- The words of demand 3's twelve-slot clause: who owns the wire by the twelfth slot after a SYN (01, "Admission"). Assumes nothing.
 use mathlib.Core.Path.{_≡_}
-use mathlib.Core.Bool.{true}
+use mathlib.Core.Bool.{Bool, true}
 use mathlib.Core.List.{List, [], _∷_}
 use Prim.Native.Nat.{ℕ, _≤_, _<_}
 use Rattle.address.specs.Master.{rankOf}
@@ -13,7 +13,7 @@ use Rattle.station.specs.declared.phase.Told.the-variants.{Owns}
 use Rattle.bus.specs.Bus.{attachedTo, turnAt}
 use Rattle.bus.specs.Slot.{spoken, slotRun}
 use Rattle.bus.specs.declared.bus.Bus.{Bus}
-use Rattle.promises.specs.Calls.{Call, queue, reply, slot, heard, afterCall}
+use Rattle.promises.specs.Calls.{Call, attach, queue, reply, slot, heard, afterCall}
 use Rattle.promises.specs.Fit.{stationAt}
 
 -- AA is heard in this slot, however it came about: it was sent, by whomever, or the slot was disturbed so
@@ -21,8 +21,9 @@ pub data SynHeardIn (b : Bus) : Call → Type 0 where
   sent : spoken b ≡ Symbol syn → SynHeardIn b slot
   disturbed : SynHeardIn b (heard (Symbol syn))
 
--- what users may call between two slots, whether it is refused or not
+-- what users may call between two slots, whether it is refused or not; an attach is refused then, always
 pub data Between : Call → Type 0 where
+  attaching : {a : ℕ} {master : Bool} → Between (attach a master)
   queued : {qq zz pb sb : ℕ} {bytes : List ℕ} → Between (queue qq zz pb sb bytes)
   replied : {a pb sb : ℕ} {bytes : List ℕ} → Between (reply a pb sb bytes)
 

@@ -1,7 +1,7 @@
--- A queue or reply call, taken or refused, leaves every station as it was but for its replies and, behind the telegrams that wait, one more.
--- Assumes nothing.
-use mathlib.Core.Path.{_≡_, refl, ap, subst}
-use mathlib.Core.Bool.{Bool, true, false, cond}
+-- A call between two slots, taken or refused, leaves every station as it was but for its replies and, behind the telegrams that wait,
+-- one more; an attach is refused. Assumes nothing.
+use mathlib.Core.Path.{_≡_, refl, sym, ap, subst, _∙_}
+use mathlib.Core.Bool.{Bool, true, false, cond, true≢false}
 use mathlib.Core.List.{List, [], _∷_}
 use Prim.Native.Nat.{ℕ, zero, suc, _+_, _≤_}
 use native.Mathlib.Omega.{arith}
@@ -26,9 +26,10 @@ use Rattle.bus.specs.Reply.{writes, repliesFrom, repliesAt, replies}
 use Rattle.bus.specs.declared.bus.Bus.{Bus}
 use Rattle.bus.specs.declared.bus.Answer.{Answer}
 use Rattle.bus.specs.declared.find.Query.the-variants.{Master, Slave}
-use Rattle.promises.specs.Calls.{Call, afterCall}
-use Rattle.promises.specs.Contest.{Between, queued, replied}
+use Rattle.promises.specs.Calls.{Call, attach, afterCall}
+use Rattle.promises.specs.Contest.{Between, attaching, queued, replied}
 use Rattle.promises.specs.Fit.{stationAt}
+use Rattle.promises.proofs.Shared.Seats.{Did, refused, attached, did-attach}
 
 -- what stays of a station; it holds no fewer telegrams
 pub record Keeps (s t : Station) : Type 0 where
@@ -44,6 +45,7 @@ pub record Keeps (s t : Station) : Type 0 where
 pub record KeepsAll (b c : Bus) : Type 0 where
   pub count : c .count ≡ b .count
   pub quiet : c .quiet ≡ b .quiet
+  pub ran : c .ran ≡ b .ran
   pub array : length (c .turns) ≡ length (b .turns)
   pub stations : (j : ℕ) → Keeps (stationAt b j) (stationAt c j)
 
@@ -60,7 +62,7 @@ same-station s =
     }
 
 same-bus : (b : Bus) → KeepsAll b b
-same-bus b = record { count = refl; quiet = refl; array = refl; stations = λ j. same-station (stationAt b j) }
+same-bus b = record { count = refl; quiet = refl; ran = refl; array = refl; stations = λ j. same-station (stationAt b j) }
 
 -- a fact about what stands at a place, after a store
 after-set : (P : Turn → Type 0) (l : List Turn) (i j : ℕ) (t d : Turn) → P (getD l j d) → (i ≡ j → P t) → P (getD (set l i t) j d)
@@ -76,6 +78,7 @@ stored b i t k =
     record {
       count = refl;
       quiet = refl;
+      ran = refl;
       array = length-set (b .turns) i t;
       stations =
           λ j. after-set (λ (u : Turn). Keeps (stationAt b j) (u .station)) (b .turns) i j t unseated (same-station (stationAt b j))
@@ -145,8 +148,14 @@ reply-keeps b (At i) pb sb bytes =
     (writes-keeps b i _))
 reply-keeps b Missing pb sb bytes = same-bus b
 
--- a queue or reply call
-pub between-keeps : (b : Bus) {c : Call} → Between c → KeepsAll b (afterCall b c)
+-- once a slot has run, every attach is refused
+attach-keeps : (b : Bus) → b .ran ≡ true → {a : ℕ} {m : Bool} {x : Answer} → Did b (attach a m) x → KeepsAll b (x .bus)
+attach-keeps b e (refused _) = same-bus b
+attach-keeps b e (attached f _ _ _) = absurd (true≢false (sym e ∙ f))
+
+-- any call between two slots
+pub between-keeps : (b : Bus) → b .ran ≡ true → {c : Call} → Between c → KeepsAll b (afterCall b c)
 unfolding queues replies
-between-keeps b (queued {qq} {zz} {pb} {sb} {bytes}) = queue-keeps b (firstOf b (Master qq)) zz pb sb bytes
-between-keeps b (replied {a} {pb} {sb} {bytes}) = reply-keeps b (firstOf b (Slave a)) pb sb bytes
+between-keeps b e (attaching {a} {master}) = attach-keeps b e (did-attach b a master)
+between-keeps b e (queued {qq} {zz} {pb} {sb} {bytes}) = queue-keeps b (firstOf b (Master qq)) zz pb sb bytes
+between-keeps b e (replied {a} {pb} {sb} {bytes}) = reply-keeps b (firstOf b (Slave a)) pb sb bytes

@@ -24,7 +24,7 @@ use Rattle.bus.specs.Bus.{seats, attachedTo, turnAt}
 use Rattle.bus.specs.Slot.{patience, generatorSays, generatorNext, spoken, slotHeard, slotRun}
 use Rattle.bus.specs.declared.bus.Bus.{Bus}
 use Rattle.promises.specs.Calls.{Call, slot, afterCall, afterCalls}
-use Rattle.promises.specs.Contest.{SynHeardIn, sent, disturbed, Between, queued, replied, Undisturbed, by-all, between, Each, Contends, LeastRank, BecomesOwner, OwnsInOneOf, this-slot, later}
+use Rattle.promises.specs.Contest.{SynHeardIn, sent, disturbed, Between, attaching, queued, replied, Undisturbed, by-all, between, Each, Contends, LeastRank, BecomesOwner, OwnsInOneOf, this-slot, later}
 use Rattle.promises.specs.Fit.{stationAt, Addressed, Fit}
 use Rattle.promises.specs.Slots.{slotsIn}
 use Rattle.promises.proofs.Contest.Anded.{NotAfter, not-after}
@@ -42,6 +42,7 @@ seats-kept : (P : Station → Type 0) {b c : Bus} → ((s t : Station) → Keeps
 seats-kept P {b} {c} f k p j h = f (stationAt b j) (stationAt c j) (k .stations j) (p j (rw (attached-kept k) at h))
 
 between-none : {c : Call} (cs : List Call) → Between c → slotsIn (c ∷ cs) ≡ slotsIn cs
+between-none cs attaching = omega arith
 between-none cs queued = omega arith
 between-none cs replied = omega arith
 
@@ -55,6 +56,10 @@ count-quiet b k e h = ap (λ (q : ℕ). generatorNext q Quiet) e ∙ rw (lt-ltb 
 count-symbol : (b : Bus) (x : ℕ) → slotHeard b (Symbol x) .quiet ≡ 0
 unfolding slotHeard
 count-symbol b x = refl
+
+ran-after : (b : Bus) (h : Sound) → slotHeard b h .ran ≡ true
+unfolding slotHeard
+ran-after b h = refl
 
 pub hears-word : (b : Bus) (w : Sound) → spoken b ≡ w → slotRun b ≡ slotHeard b w
 unfolding slotRun
@@ -70,6 +75,7 @@ own-word b i o h e w =
 -- ---- the last slot: only those near to a are admitted
 
 record Last (a i : ℕ) (b : Bus) : Type 0 where
+  ran : b .ran ≡ true
   array : length (b .turns) ≡ seats
   quiet : b .quiet ≡ 0
   seated : i < attachedTo b
@@ -82,6 +88,7 @@ last-opening l = record { array = l .array; quiet = l .quiet; opens = λ j h. l 
 last-kept : {a i : ℕ} {b c : Bus} → KeepsAll b c → Last a i b → Last a i c
 last-kept {a} {i} k l =
     record {
+      ran = k .ran ∙ l .ran;
       array = k .array ∙ l .array;
       quiet = k .quiet ∙ l .quiet;
       seated = rw (attached-kept k) (l .seated);
@@ -115,11 +122,12 @@ last-run : (a i : ℕ) (b : Bus) → Last a i b → (cs : List Call) → Each Un
 last-run a i b l [] u n = absurd (omega arith)
 last-run a i b l (c ∷ cs) (by-all, us) n = this-slot (last-owns a i b l)
 last-run a i b l (c ∷ cs) (between k, us) n =
-    later (last-run a i (afterCall b c) (last-kept (between-keeps b k) l) cs us (sym (between-none cs k) ∙ n))
+    later (last-run a i (afterCall b c) (last-kept (between-keeps b (l .ran) k) l) cs us (sym (between-none cs k) ∙ n))
 
 -- ---- k quiet slots since the one symbol
 
 record Waiting (a i k : ℕ) (b : Bus) : Type 0 where
+  ran : b .ran ≡ true
   array : length (b .turns) ≡ seats
   quiet : b .quiet ≡ k
   seated : i < attachedTo b
@@ -129,6 +137,7 @@ record Waiting (a i k : ℕ) (b : Bus) : Type 0 where
 waiting-kept : {a i k : ℕ} {b c : Bus} → KeepsAll b c → Waiting a i k b → Waiting a i k c
 waiting-kept {a} {i} k l =
     record {
+      ran = k .ran ∙ l .ran;
       array = k .array ∙ l .array;
       quiet = k .quiet ∙ l .quiet;
       seated = rw (attached-kept k) (l .seated);
@@ -152,6 +161,7 @@ waiting-quiet a i k b h l = rw (hears-word b Quiet (waiting-word l ∙ rw (lt-lt
     after : Waiting a i (suc k) (slotHeard b Quiet)
     after =
         record {
+          ran = ran-after b Quiet;
           array = array-after b Quiet (l .array);
           quiet = count-quiet b k (l .quiet) h;
           seated = rw (attached-after b Quiet) (l .seated);
@@ -169,6 +179,7 @@ waiting-syn a i b l = rw (hears-word b (Symbol syn) (waiting-word l)) after
     after : Last a i (slotHeard b (Symbol syn))
     after =
         record {
+          ran = ran-after b (Symbol syn);
           array = array-after b (Symbol syn) (l .array);
           quiet = count-symbol b syn;
           seated = rw (attached-after b (Symbol syn)) (l .seated);
@@ -182,7 +193,7 @@ waiting-run : (a i k : ℕ) (b : Bus) → Waiting a i k b → (m : ℕ) → k + 
     → OwnsInOneOf i b cs
 waiting-run a i k b l m e [] u n = absurd (omega arith)
 waiting-run a i k b l m e (c ∷ cs) (between d, us) n =
-    later (waiting-run a i k (afterCall b c) (waiting-kept (between-keeps b d) l) m e cs us (sym (between-none cs d) ∙ n))
+    later (waiting-run a i k (afterCall b c) (waiting-kept (between-keeps b (l .ran) d) l) m e cs us (sym (between-none cs d) ∙ n))
 waiting-run a i k b l zero e (c ∷ cs) (by-all, us) n =
     let nine : k ≡ patience = omega arith in
     later (last-run a i (slotRun b) (waiting-syn a i b (rw nine at l)) cs us (omega arith))
@@ -192,13 +203,14 @@ waiting-run a i k b l (suc m) e (c ∷ cs) (by-all, us) n =
 -- ---- the slot after AA
 
 pub record Begun (b : Bus) : Type 0 where
+  pub ran : b .ran ≡ true
   pub array : length (b .turns) ≡ seats
   pub quiet : b .quiet ≡ 0
   pub each : InEverySeat Starts b
 
 begun-kept : {b c : Bus} → KeepsAll b c → Begun b → Begun c
 begun-kept k l =
-    record { array = k .array ∙ l .array; quiet = k .quiet ∙ l .quiet; each = seats-kept Starts (λ s t. starts-kept) k (l .each) }
+    record { ran = k .ran ∙ l .ran; array = k .array ∙ l .array; quiet = k .quiet ∙ l .quiet; each = seats-kept Starts (λ s t. starts-kept) k (l .each) }
 
 class : (x y : ℕ) → NotAfter x y → lowHalf x ≤ lowHalf y
 class x y (inl l) = omega arith
@@ -258,6 +270,7 @@ module _ (b : Bus) (g : Begun b) (i : ℕ) (c : Contends b i) (least : LeastRank
       after : Waiting (stationAt b i .address) i 0 (slotHeard b (Symbol w))
       after =
           record {
+            ran = ran-after b (Symbol w);
             array = array-after b (Symbol w) (g .array);
             quiet = count-symbol b w;
             seated = rw (attached-after b (Symbol w)) (c .attached);
@@ -286,6 +299,7 @@ module _ (b : Bus) (g : Begun b) (i : ℕ) (c : Contends b i) (least : LeastRank
 begun-syn : (b : Bus) → Fit b → Begun (slotHeard b (Symbol syn))
 begun-syn b f =
     record {
+      ran = ran-after b (Symbol syn);
       array = array-after b (Symbol syn) (f .array);
       quiet = count-symbol b syn;
       each = seats-after Addressed Starts b (Symbol syn) (f .array) starts (f .addressed);
@@ -303,7 +317,7 @@ begun-heard b f disturbed = begun-syn b f
 pub begun-between : (b : Bus) → Begun b → (cs : List Call) → Each Between cs → Begun (afterCalls b cs)
 unfolding afterCalls
 begun-between b g [] u = g
-begun-between b g (c ∷ cs) (k, us) = begun-between (afterCall b c) (begun-kept (between-keeps b k) g) cs us
+begun-between b g (c ∷ cs) (k, us) = begun-between (afterCall b c) (begun-kept (between-keeps b (g .ran) k) g) cs us
 
 -- the twelve-slot clause for a station that is given as the least; `TheLeast` shows that there is one wherever any contend
 pub contender-owns-by-the-twelfth :
@@ -311,13 +325,13 @@ pub contender-owns-by-the-twelfth :
     (b : Bus) → Fit b
     -- a SYN is heard in a slot, however it came about
     → (c : Call) → SynHeardIn b c
-    -- then users may queue and set replies, and the next slot begins
+    -- then users may queue, set replies and have an attach refused, and the next slot begins
     → (before : List Call) → Each Between before
     -- the station i is among those that this SYN admits and that have a telegram waiting when that slot begins
     → (i : ℕ) → Contends (afterCalls (afterCall b c) before) i
     -- and of all of them it has the least rank
     → LeastRank (afterCalls (afterCall b c) before) i
-    -- that slot and eleven more are undisturbed, with any queue and reply calls between them
+    -- that slot and eleven more are undisturbed, with any such calls between them
     → (calls : List Call) → Each Undisturbed calls → slotsIn (slot ∷ calls) ≡ 12
     -- it becomes owner in one of the twelve
     → OwnsInOneOf i (afterCalls (afterCall b c) before) (slot ∷ calls)
