@@ -20,7 +20,7 @@ use Rattle.station.specs.declared.phase.Sound.the-variants.{Symbol}
 use Rattle.bus.specs.Bus.{attachedTo}
 use Rattle.bus.specs.declared.bus.Bus.{Bus}
 use Rattle.promises.specs.Calls.{Call, slot, afterCall, afterCalls, Reachable}
-use Rattle.promises.specs.Contest.{SynHeardIn, sent, disturbed, Between, Undisturbed, Each, Contends, LeastRank, TheLeast, OwnsInOneOf}
+use Rattle.promises.specs.Contest.{SynHeardIn, sent, disturbed, Between, Undisturbed, Each, Contends, Ranks, LeastRank, TheLeast, OwnsInOneOf}
 use Rattle.promises.specs.Fit.{stationAt, Fit}
 use Rattle.promises.specs.Slots.{slotsIn}
 use Rattle.promises.proofs.Contest.Between.{KeepsAll, between-keeps}
@@ -37,6 +37,9 @@ rank-number Nobody = 25
 rank-of : (k : Rank) (r : ℕ) → k ≡ Of r → rank-number k ≡ r
 unfolding rank-number
 rank-of k r e = ap rank-number e
+
+one-rank : {k : Rank} {r q : ℕ} → k ≡ Of r → k ≡ Of q → r ≡ q
+one-rank {k} {r} {q} e g = sym (rank-of k r e) ∙ rank-of k q g
 
 module _ (b : Bus) where
   number : ℕ → ℕ
@@ -75,17 +78,34 @@ module _ (b : Bus) where
   bid : {j : ℕ} → Contends b j → bids (stationAt b j) ≡ true
   bid {j} c = means-bid (stationAt b j) (c .admitted) (c .waits)
 
-  pub some-least : (j : ℕ) → Contends b j → (i : ℕ) × Contends b i × LeastRank b i
+  some-least : ((j : ℕ) → Contends b j → (r : ℕ) × Ranks b j r) → (j : ℕ) → Contends b j → (i : ℕ) × Contends b i × LeastRank b i
   unfolding number
-  some-least j c = go (search-best (attachedTo b))
+  some-least ranked j c = go (search-best (attachedTo b))
     where
       go : Best (attachedTo b) → (i : ℕ) × Contends b i × LeastRank b i
       go (nobody f) = absurd (f j (c .attached) (bid c))
       go (best i h k f) =
-          let p = bid-means (stationAt b i) k in (
+          let p = bid-means (stationAt b i) k in
+          let d : Contends b i = record { attached = h; admitted = p .0; waits = p .1 } in
+          let r = ranked i d in (
             i,
-            record { attached = h; admitted = p .0; waits = p .1 },
-            λ m r q d e g. omega (arith, f m (d .attached) (bid d), rank-of (rankOf (stationAt b i .address)) r e, rank-of (rankOf (stationAt b m .address)) q g),
+            d,
+            record {
+              rank = r .0;
+              ranks = r .1;
+              not-before =
+                  λ m e.
+                  let q = ranked m e in (
+                    q .0,
+                    q .1,
+                    omega (
+                      arith,
+                      f m (e .attached) (bid e),
+                      rank-of (rankOf (stationAt b i .address)) (r .0) (r .1),
+                      rank-of (rankOf (stationAt b m .address)) (q .0) (q .1),
+                    ),
+                  );
+            },
           )
 
 -- ---- there is one only
@@ -105,20 +125,27 @@ calls-fit b e f (c ∷ cs) (k, us) =
     let w = between-keeps b e k in
     calls-fit (afterCall b c) (w .ran ∙ e) (between-fit w f) cs us
 
+-- every attached master has a rank
+pub attached-master-ranks : {b : Bus} → Fit b → (i : ℕ) → i < attachedTo b → stationAt b i .master ≡ true → (r : ℕ) × Ranks b i r
+attached-master-ranks {b} f i l m = master-exactly-when-ranked (stationAt b i .address) .0 (f .addressed i l .master-address m)
+
 module _ (b : Bus) (f : Fit b) (g : Begun b) where
-  ranked : {j : ℕ} → Contends b j → (r : ℕ) × (rankOf (stationAt b j .address) ≡ Of r)
-  ranked {j} c = master-exactly-when-ranked (stationAt b j .address) .0 (g .each j (c .attached) .opens .may (c .admitted))
+  -- who contends is a master, so it has a rank
+  ranked : (j : ℕ) → Contends b j → (r : ℕ) × Ranks b j r
+  ranked j c = master-exactly-when-ranked (stationAt b j .address) .0 (g .each j (c .attached) .opens .may (c .admitted))
 
   only-least : (i j : ℕ) → Contends b i → LeastRank b i → Contends b j → LeastRank b j → j ≡ i
   only-least i j c l d m =
-      let r = ranked c in
-      let q = ranked d in
-      let x : r .0 ≤ q .0 = l j (r .0) (q .0) d (r .1) (q .1) in
-      let y : q .0 ≤ r .0 = m i (q .0) (r .0) c (q .1) (r .1) in
-      let e : q .0 ≡ r .0 = omega arith in
+      let x = l .not-before j d in
+      let y = m .not-before i c in
+      let same-q : x .0 ≡ m .rank = one-rank (x .1) (m .ranks) in
+      let same-r : y .0 ≡ l .rank = one-rank (y .1) (l .ranks) in
+      let p : l .rank ≤ x .0 = x .2 in
+      let q : m .rank ≤ y .0 = y .2 in
+      let e : m .rank ≡ l .rank = omega arith in
       let same : stationAt b j .address ≡ stationAt b i .address
-      = ranks-distinct (stationAt b j .address) (stationAt b i .address) (r .0) (f .addressed j (d .attached) .byte) (f .addressed i (c .attached) .byte)
-      (q .1 ∙ ap Of e) (r .1) in
+      = ranks-distinct (stationAt b j .address) (stationAt b i .address) (l .rank) (f .addressed j (d .attached) .byte) (f .addressed i (c .attached) .byte)
+      (m .ranks ∙ ap Of e) (l .ranks) in
       one-address f j i (d .attached) (c .attached) same
 
 -- the demand: "if a SYN is heard and the next twelve slots are undisturbed, then among the masters which that SYN admits and which
@@ -140,9 +167,9 @@ pub least-rank-owns-by-the-twelfth : {b : Bus}
 least-rank-owns-by-the-twelfth {b} r c s before u j k calls v n =
     let f = reachable-fit r in
     let b₂ = afterCalls (afterCall b c) before in
-    let w = some-least b₂ j k in
     let fit : Fit b₂ = calls-fit (afterCall b c) (begun-heard b f s .ran) (syn-fit b f s) before u in
-    let begun : Begun b₂ = begun-between (afterCall b c) (begun-heard b f s) before u in (
+    let begun : Begun b₂ = begun-between (afterCall b c) (begun-heard b f s) before u in
+    let w = some-least b₂ (ranked b₂ fit begun) j k in (
       w .0,
       record { contends = w .1; least = w .2; only = λ m d l. only-least b₂ fit begun (w .0) m (w .1) (w .2) d l },
       contender-owns-by-the-twelfth b f c s before u (w .0) (w .1) (w .2) calls v n,

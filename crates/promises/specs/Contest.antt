@@ -42,10 +42,15 @@ pub record Contends (b : Bus) (i : ℕ) : Type 0 where
   pub admitted : stationAt b i .admitted ≡ true
   pub waits : 0 < heldIn (stationAt b i .outbox)
 
--- none of those who contend ranks before it: class first, then sub-address
-abbrev pub LeastRank : Bus → ℕ → Type 0
-LeastRank b i =
-    (j r q : ℕ) → Contends b j → rankOf (stationAt b i .address) ≡ Of r → rankOf (stationAt b j .address) ≡ Of q → r ≤ q
+-- it has this rank: class first, then sub-address
+abbrev pub Ranks : Bus → ℕ → ℕ → Type 0
+Ranks b i r = rankOf (stationAt b i .address) ≡ Of r
+
+-- it has a rank, so has everyone who contends, and none of them ranks before it
+pub record LeastRank (b : Bus) (i : ℕ) : Type 0 where
+  pub rank : ℕ
+  pub ranks : Ranks b i rank
+  pub not-before : (j : ℕ) → Contends b j → (q : ℕ) × Ranks b j q × (rank ≤ q)
 
 -- the one least of those who contend
 pub record TheLeast (b : Bus) (i : ℕ) : Type 0 where

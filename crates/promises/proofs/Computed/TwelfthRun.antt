@@ -1,13 +1,12 @@
 -- A run that meets the hypotheses of `least-rank-owns-by-the-twelfth` with a collision: P9, {10, 01}, beside a third master 00.
 -- Assumes nothing.
-use mathlib.Core.Path.{_≡_, refl, sym, ap, subst}
+use mathlib.Core.Path.{_≡_, refl, sym, ap, subst, _∙_}
 use mathlib.Core.Bool.{true}
 use mathlib.Core.List.{List, [], _∷_}
-use Prim.Native.Nat.{ℕ, zero, suc}
+use Prim.Native.Nat.{ℕ, zero, suc, _≤_}
 use native.Mathlib.Omega.{arith}
 use lib.Dec.{lit<}
 use Rattle.address.specs.Master.{rankOf}
-use Rattle.address.specs.declared.Rank.the-variants.{Of}
 use Rattle.address.proofs.Ranks.{ten-before-one}
 use Rattle.station.specs.Outbox.{heldIn}
 use Rattle.station.specs.Station.{syn}
@@ -19,7 +18,7 @@ use Rattle.bus.specs.Bus.{poweredOn, attachedTo, turnAt}
 use Rattle.bus.specs.Slot.{spoken, slotHeard, slotRun}
 use Rattle.bus.specs.declared.bus.Bus.{Bus}
 use Rattle.promises.specs.Calls.{Call, attach, queue, reply, slot, heard, afterCall, afterCalls, Reachable}
-use Rattle.promises.specs.Contest.{sent, queued, by-all, between, Contends, LeastRank, OwnsInOneOf}
+use Rattle.promises.specs.Contest.{sent, queued, by-all, between, Contends, Ranks, LeastRank, OwnsInOneOf}
 use Rattle.promises.specs.Fit.{stationAt}
 use Rattle.promises.proofs.Computed.Runs.{run}
 use Rattle.promises.proofs.TheLeast.{least-rank-owns-by-the-twelfth}
@@ -139,19 +138,17 @@ one-contends =
       waits = omega (arith, computed .one-holds);
     }
 
-ranked : (x y r q : ℕ) → rankOf x ≡ Of q → y ≡ x → rankOf y ≡ Of r → r ≡ q
-ranked x y r q e p f = let g = ap rankOf p in cc
-
 pub ten-least : LeastRank begins 0
-ten-least zero r q c e f = omega (arith, ranked (stationAt begins 0 .address) (stationAt begins 0 .address) r q f refl e)
-ten-least (suc zero) r q c e f =
-    omega (
-      arith,
-      ranked 0x10 (stationAt begins 0 .address) r 1 (ten-before-one .0) (computed .ten) e,
-      ranked 0x01 (stationAt begins 1 .address) q 5 (ten-before-one .1) (computed .one) f,
-    )
-ten-least (suc (suc zero)) r q c e f = absurd (omega (arith, c .waits, computed .nought-holds))
-ten-least (suc (suc (suc j))) r q c e f = absurd (omega (arith, c .attached, computed .count))
+ten-least = record { rank = 1; ranks = ten-ranks; not-before = not-before }
+  where
+    ten-ranks : Ranks begins 0 1
+    ten-ranks = ap rankOf (computed .ten) ∙ ten-before-one .0
+
+    not-before : (j : ℕ) → Contends begins j → (q : ℕ) × Ranks begins j q × (1 ≤ q)
+    not-before zero c = (1, ten-ranks, omega arith)
+    not-before (suc zero) c = (5, ap rankOf (computed .one) ∙ ten-before-one .1, omega arith)
+    not-before (suc (suc zero)) c = absurd (omega (arith, c .waits, computed .nought-holds))
+    not-before (suc (suc (suc j))) c = absurd (omega (arith, c .attached, computed .count))
 
 -- so 10 becomes owner in one of the twelve slots ..
 pub ten-owns : OwnsInOneOf 0 begins (slot ∷ after)

@@ -11,7 +11,6 @@ use lib.Dec.{eqb}
 use lib.ListN.{length}
 use Rattle.address.specs.Half.{lowHalf, highHalf}
 use Rattle.address.specs.Master.{isMaster}
-use Rattle.address.proofs.Masters.{master-exactly-when-ranked}
 use Rattle.station.specs.Hear.{hears}
 use Rattle.station.specs.Admission.{bids}
 use Rattle.station.specs.Station.{syn, ready}
@@ -231,11 +230,9 @@ module _ (b : Bus) (g : Begun b) (i : ℕ) (c : Contends b i) (least : LeastRank
   before j h e =
       let m = master-of i (c .attached) bid in
       let n = master-of j h e in
-      let r = master-exactly-when-ranked (stationAt b i .address) .0 m in
-      let q = master-exactly-when-ranked (stationAt b j .address) .0 n in
       let p = bid-means (stationAt b j) e in
-      not-after (stationAt b i .address) (stationAt b j .address) (r .0) (q .0) m n (r .1) (q .1)
-      (least j (r .0) (q .0) (record { attached = h; admitted = p .0; waits = p .1 }) (r .1) (q .1))
+      let q = least .not-before j (record { attached = h; admitted = p .0; waits = p .1 }) in
+      not-after (stationAt b i .address) (stationAt b j .address) (least .rank) (q .0) m n (least .ranks) (q .1) (q .2)
 
   -- the word has the least class
   record Heard (w : ℕ) : Type 0 where
