@@ -1,4 +1,4 @@
--- The generator says what the run of quiet slots says, after any calls from power-on. Assumes nothing.
+-- The generator says what the run of quiet slots says, after any calls from power-on; with silent stations all hear it. Assumes nothing.
 use mathlib.Core.Path.{_≡_, refl, ap, _∙_}
 use mathlib.Core.Bool.{Bool, true, false, cond}
 use mathlib.Core.List.{List, [], _∷_}
@@ -13,6 +13,8 @@ use Rattle.bus.specs.declared.bus.Answer.{Answer}
 use Rattle.bus.specs.Bus.{poweredOn, withTurn}
 use Rattle.bus.specs.Slot.{generatorSays, generatorNext, spoken, slotHeard, slotRun}
 use Rattle.promises.specs.Calls.{Call, attach, queue, reply, slot, heard, afterCall, afterCalls}
+use Rattle.promises.specs.Silence.{NobodySays}
+use Rattle.promises.proofs.Silence.{silent-word}
 use Rattle.promises.proofs.Shared.Seats.{Did, refused, attached, queued, replied, did-attach, did-queue, did-reply}
 use Rattle.history.specs.Generator.{soundsCall, soundsCalls, sounds, quietRun, generates}
 
@@ -75,3 +77,19 @@ pub generator-as-observed : (cs : List Call) → generatorSays (afterCalls power
 unfolding generates
 generator-as-observed cs =
     ap generatorSays (calls-count poweredOn [] cs none) ∙ says-nine (quietRun (sounds cs) % 10) (below-ten (quietRun (sounds cs)))
+
+-- ---- silent stations
+
+-- after any calls from power-on, if no attached station says anything in the next slot, all hear the generator in it
+pub silent-as-observed : (cs : List Call) → NobodySays (afterCalls poweredOn cs) → spoken (afterCalls poweredOn cs) ≡ generates (sounds cs)
+silent-as-observed cs q = silent-word (afterCalls poweredOn cs) q ∙ generator-as-observed cs
+
+-- up to eight slots were quiet in a row: no AA
+pub no-aa-before-nine : (cs : List Call) → quietRun (sounds cs) ≤ 8 → NobodySays (afterCalls poweredOn cs) → spoken (afterCalls poweredOn cs) ≡ Quiet
+unfolding generates
+no-aa-before-nine cs l q = silent-as-observed cs q ∙ rw (ne-eqb (quietRun (sounds cs) % 10) 9 (λ e. omega arith))
+
+-- nine: AA
+pub aa-after-nine : (cs : List Call) → quietRun (sounds cs) ≡ 9 → NobodySays (afterCalls poweredOn cs) → spoken (afterCalls poweredOn cs) ≡ Symbol 0xAA
+unfolding generates
+aa-after-nine cs e q = silent-as-observed cs q ∙ rw e

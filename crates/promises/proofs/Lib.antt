@@ -7,6 +7,7 @@ pub mod OneOwner
 pub mod Refused
 pub mod SameSymbol
 pub mod Shared
+pub mod Silence
 pub mod SlotsCounted
 pub mod Taken
 pub mod TakenIsHandedOut

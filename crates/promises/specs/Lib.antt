@@ -4,5 +4,6 @@ pub mod Contest
 pub mod Fit
 pub mod Heard
 pub mod Orders
+pub mod Silence
 pub mod Slots
 pub mod Transfers
