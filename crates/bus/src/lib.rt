@@ -5,7 +5,7 @@ pub mod find;
 mod queue;
 pub mod refusal;
 mod reply;
-mod rest;
+pub mod rest;
 pub mod run;
 mod slot;
 mod still;

@@ -147,7 +147,7 @@ pub(crate) fn or_restless(already: bool, t: Turn) -> bool
 }
 
 // Whether one so far or this one was told something.
-pub(crate) fn or_told(already: bool, t: Turn) -> bool
+pub fn or_told(already: bool, t: Turn) -> bool
     ensures { λ r. ⌜ r ≡ orMeets WasTold already t ⌝ }
 {
     if already {

@@ -34,7 +34,7 @@ texts-append (n ∷ l) m =
     ap (λ (v : List ℕ). momentText (n .moment) (n .bus) ++ v) (texts-append l m) ∙ sym (append-assoc (momentText (n .moment) (n .bus)) (momentsText l) (momentsText m))
 
 -- a slot that tells nobody anything prints nothing
-quiet-text : (b : Bus) → thereIs b WasTold ≡ false → slotText b ≡ []
+pub quiet-text : (b : Bus) → thereIs b WasTold ≡ false → slotText b ≡ []
 unfolding slotText textOf
 quiet-text b e = ap (λ (es : List Event). textOf (b .slot) es) (told-exactly-when b .0 e)
 

@@ -1,15 +1,12 @@
-// The lines of a slot, of a refusal, of a scenario's form, and the last line.
+// The lines of a station in a slot, of a refusal, of a scenario's form, and the last line.
 ghost use mathlib.Core.Path.{_≡_};
 ghost use Rattle.scenario.specs.Pen.{pen, penned};
-ghost use Rattle.scenario.specs.Lines.{beginText, plainText, failureText, loadText, givenText, answerText, passText, textOf, slotText, verdictText, formText, endText};
+ghost use Rattle.scenario.specs.Lines.{beginText, plainText, failureText, loadText, givenText, answerText, passText, verdictText, formText, endText};
 ghost use mathlib.Core.Bool.{true, false};
 ghost use Rattle.station.specs.Events.{numberOf};
-ghost use Rattle.bus.specs.Bus.{attachedTurns};
-ghost use Rattle.bus.specs.Events.{linesOf};
 ghost use Rattle.bus.specs.Refusal.{refusalNumber};
 use crate::pen;
 use crate::pen::ROOM;
-use bus::bus::Bus;
 use bus::refusal::Refusal;
 use bus::refusal::Verdict;
 use station::phase::Failure;
@@ -100,7 +97,7 @@ fn answer(page: &mut [u8; ROOM], at: usize, slot: u32, station: u8, t: Telegram)
 }
 
 // owns, taken, failed and free lines of one station.
-fn first_of(page: &mut [u8; ROOM], at: usize, slot: u32, t: Turn) -> usize
+pub fn first_of(page: &mut [u8; ROOM], at: usize, slot: u32, t: Turn) -> usize
     ensures { λ r. ⌜ pen (now (page .exit)) r ≡ penned (pen (now (page .entry)) at) (passText slot false t) ⌝ }
 {
     let a = t.station.address;
@@ -121,7 +118,7 @@ fn first_of(page: &mut [u8; ROOM], at: usize, slot: u32, t: Turn) -> usize
 }
 
 // given and answer lines of one station.
-fn last_of(page: &mut [u8; ROOM], at: usize, slot: u32, t: Turn) -> usize
+pub fn last_of(page: &mut [u8; ROOM], at: usize, slot: u32, t: Turn) -> usize
     ensures { λ r. ⌜ pen (now (page .exit)) r ≡ penned (pen (now (page .entry)) at) (passText slot true t) ⌝ }
 {
     let s = t.station;
@@ -138,40 +135,6 @@ fn last_of(page: &mut [u8; ROOM], at: usize, slot: u32, t: Turn) -> usize
         Told::Given => given(page, at, slot, a, part),
         Told::Answered => answer(page, at, slot, a, part),
     }
-}
-
-fn one_of(page: &mut [u8; ROOM], at: usize, slot: u32, last: bool, t: Turn) -> usize
-    ensures { λ r. ⌜ pen (now (page .exit)) r ≡ penned (pen (now (page .entry)) at) (passText slot last t) ⌝ }
-{
-    if last {
-        last_of(page, at, slot, t)
-    } else {
-        first_of(page, at, slot, t)
-    }
-}
-
-// One pass over the stations in attach order.
-fn pass(page: &mut [u8; ROOM], at: usize, b: Bus, last: bool) -> usize
-    ensures { λ r. ⌜ pen (now (page .exit)) r ≡ penned (pen (now (page .entry)) at) (textOf (b .slot) (linesOf last (attachedTurns b))) ⌝ }
-{
-    let n = b.attached();
-    let slot = b.slot;
-    let mut to = at;
-    let mut i: usize = 0;
-    while i < n {
-        let t = b.turns[i];
-        to = one_of(page, to, slot, last, t);
-        i += 1;
-    }
-    to
-}
-
-// The lines of the slot that was just run; the answer is how many bytes of the page they take.
-pub fn slot_lines(page: &mut [u8; ROOM], at: usize, b: Bus) -> usize
-    ensures { λ r. ⌜ pen (now (page .exit)) r ≡ penned (pen (now (page .entry)) at) (slotText b) ⌝ }
-{
-    let to = pass(page, at, b, false);
-    pass(page, to, b, true)
 }
 
 fn refusal_number(r: Refusal) -> u32

@@ -4,5 +4,6 @@ pub mod Given
 pub mod Going
 pub mod GoodForm
 pub mod Nearer
+pub mod Seats
 pub mod Shorter
 pub mod TaggedRead

@@ -30,6 +30,10 @@ before at = record { at = at; within = false; left = 0 }
 abbrev pub within : ℕ → ℕ → Place
 within to left = record { at = to; within = true; left = left }
 
+-- within a field where slots told somebody something, else behind it
+abbrev pub cameTo : ℕ → ℕ → Bool → Place
+cameTo to left told = cond told (within to left) (before to)
+
 -- slots are run to the first that tells somebody something; a field of no slots, or of none that are left, is over
 abbrev pub slotsLeft : ℕ → Task
 slotsLeft n = cond (ltb 0 n) (Slots n) Pass

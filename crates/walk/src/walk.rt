@@ -1,7 +1,7 @@
 // A walk over a scenario's fields, one moment at a time, with the bus as it then stands. Whoever listens to a scenario does
 // so at its moments.
 ghost use mathlib.Core.Path.{_≡_};
-ghost use Rattle.walk.specs.Walk.{before, within, slotsLeft, taskOf, aheadOf, stepped, called, isEnd, walked};
+ghost use Rattle.walk.specs.Walk.{before, within, cameTo, slotsLeft, taskOf, aheadOf, stepped, called, isEnd, walked};
 use crate::apply;
 use crate::field;
 use crate::field::Field;
@@ -110,7 +110,7 @@ impl Place {
         }
     }
 
-    fn within(to: usize, left: u32) -> Place
+    pub fn within(to: usize, left: u32) -> Place
         ensures { λ r. ⌜ r ≡ within to left ⌝ }
     {
         Place {
@@ -120,7 +120,18 @@ impl Place {
         }
     }
 
-    fn ahead(self, s: &[u8]) -> Ahead
+    // Where slots that were run leave it: within the field where they told somebody something, else behind it.
+    pub fn came(to: usize, left: u32, told: bool) -> Place
+        ensures { λ r. ⌜ r ≡ cameTo to left told ⌝ }
+    {
+        if told {
+            Place::within(to, left)
+        } else {
+            Place::before(to)
+        }
+    }
+
+    pub fn ahead(self, s: &[u8]) -> Ahead
         ensures { λ r. ⌜ r ≡ aheadOf self (now (s .entry)) ⌝ }
     {
         let at = self.at;
