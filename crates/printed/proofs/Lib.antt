@@ -1,2 +1,6 @@
+pub mod Cuts
+pub mod LineOrder
+pub mod LinesReadBack
+pub mod OtherLines
 pub mod Output
 pub mod Reached
