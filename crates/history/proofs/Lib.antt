@@ -13,4 +13,5 @@ pub mod Sentences
 pub mod Shares
 pub mod Slots
 pub mod Steps
+pub mod ToldWhen
 pub mod Verdicts
