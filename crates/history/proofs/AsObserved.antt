@@ -31,6 +31,7 @@ use Rattle.promises.proofs.Taken.Together.{reachable-together}
 use Rattle.history.specs.Moments.{History, nothing}
 use Rattle.history.specs.Seen.{momentAt, later, seenCall, seenCalls, seen}
 use Rattle.history.specs.Observer as observer
+use Rattle.history.proofs.Matches.{MatchesIn}
 use Rattle.history.proofs.Matches as matches
 use Rattle.history.proofs.Observed.{Observed, says-now, tells-now, hands-now, observed-later}
 use Rattle.history.specs.Lines.{lines, HandsOut, leftBy}
@@ -185,6 +186,10 @@ module _ (cs : List Call) (bytes : ByteCalls cs) (i : ℕ) (attached : i < attac
 
   abbrev its : Station
   its = stationAt bus i
+
+  -- its state is as its share says
+  pub share-matches : MatchesIn its (observer.shareOf (its .address) (its .master) (seen i cs))
+  share-matches = followed i cs bytes .observed attached .share
 
   -- what it says in the next slot
   pub says-as-observed : saidBy (turnAt bus i) ≡ observer.says (its .address) (its .master) (seen i cs) (waiting (its .outbox)) (its .replies)

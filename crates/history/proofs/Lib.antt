@@ -9,6 +9,7 @@ pub mod Headed
 pub mod HeldByCalls
 pub mod Matches
 pub mod Observed
+pub mod SaysWhen
 pub mod Sentences
 pub mod Shares
 pub mod Slots
