@@ -24,7 +24,8 @@ use Rattle.promises.proofs.Shared.Arrays.{every-append}
 use Rattle.scenario.specs.Lines.{wordText, valuesText, hexesText, beginText, lineText, textOf, slotText}
 use Rattle.scenario.specs.Pen.{hexText, decimalText}
 use Rattle.scenario.proofs.ReadsBack.{decimal-reads-back}
-use Rattle.printed.specs.ReadLine.{Line, told, cut, letters, named, saysOf, lineWith, readLine, readText, lineOf, saysBy, ByteTurn, ByteBus, Values, ByteEvent}
+use Rattle.printed.specs.ReadLine.{Line, told, cut, letters, named, saysOf, lineWith, readLine, readText}
+use Rattle.printed.specs.ToldLines.{lineOf, saysBy, ByteTurn, ByteBus, Values, ByteEvent}
 use Rattle.printed.proofs.Cuts.{Above, cut-at, cut-last, above, ended, nothing-read, decimal-above, number-no-word, hexWord, hex-above, cut-bytes, bytes-above, byte-back, bytes-back}
 
 -- ---- one line
