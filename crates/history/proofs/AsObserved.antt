@@ -34,6 +34,7 @@ use Rattle.history.specs.Moments.{Answers, History, nothing}
 use Rattle.history.specs.Held.{Who}
 use Rattle.history.specs.Seen.{Known, unknown, momentIn, later, seenCall, knownCall, knownCalls, seen, heldBy, answersBy, stationBy}
 use Rattle.history.specs.Observer as observer
+use Rattle.history.proofs.Matches.{MatchesIn}
 use Rattle.history.proofs.Matches as matches
 use Rattle.history.proofs.Observed.{Observed, says-now, tells-now, hands-now, observed-later}
 use Rattle.history.proofs.Slots.{moment}
@@ -193,6 +194,12 @@ module _ (cs : List Call) (bytes : ByteCalls cs) (i : ℕ) (attached : i < attac
       let v = account i cs bytes in
       subst₂ (λ (ts : List Telegram) (f : Answers). P its ts f) (sym (v .held attached)) (sym (v .answers attached))
       (subst (λ (w : Who). P w (waiting (stationAt bus i .outbox)) (answerFor (stationAt bus i .replies))) (sym (v .seated .each i attached)) p)
+
+  -- its state is as its share says
+  pub share-matches : MatchesIn (stationAt bus i) (observer.shareOf (its .address) (its .master) (seen i cs))
+  share-matches =
+      by-its-calls (λ w ts f. MatchesIn (stationAt bus i) (observer.shareOf (w .address) (w .master) (seen i cs)))
+      (followed i cs bytes .observed attached .share)
 
   -- what it says in the next slot
   pub says-as-observed : saidBy (turnAt bus i) ≡ observer.says (its .address) (its .master) (seen i cs) (heldBy i cs) (answersBy i cs)

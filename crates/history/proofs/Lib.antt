@@ -9,8 +9,10 @@ pub mod Headed
 pub mod HeldByCalls
 pub mod Matches
 pub mod Observed
+pub mod SaysWhen
 pub mod Sentences
 pub mod Shares
 pub mod Slots
 pub mod Steps
+pub mod ToldWhen
 pub mod Verdicts

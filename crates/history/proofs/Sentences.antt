@@ -1,7 +1,7 @@
 -- Sentences of 01 from what is heard, after any calls from power-on, for every attached station and whatever all hear in the next
--- slot: who owns the wire, and each failed number, exactly when. Assumes nothing.
+-- slot: owns, each failed number, taken, free, given and answer, each exactly when. Assumes nothing.
 use mathlib.Core.Path.{_≡_, refl, sym, ap, _∙_}
-use mathlib.Core.Logic.{_↔_}
+use mathlib.Core.Logic.{_↔_, _⊎_, inl, inr, ⊎-elim}
 use mathlib.Core.Bool.{Bool, true, false, cond, true≢false, false≢true}
 use mathlib.Core.List.{List, [], _∷_, _++_}
 use Prim.Native.Nat.{ℕ, _≤_, _<_}
@@ -10,6 +10,7 @@ use lib.Dec.{eqb}
 use Rattle.wire.specs.Form.{answerForm}
 use Rattle.wire.specs.declared.reader.Outcome.{Outcome}
 use Rattle.wire.specs.declared.reader.Outcome.the-variants.{More, Cut, NoMaster, Unusable, TooLong, BrokenPair, Whole}
+use Rattle.wire.proofs.SymbolKind.{clash}
 use Rattle.station.specs.declared.phase.Sound.{Sound}
 use Rattle.station.specs.declared.phase.Sound.the-variants.{Quiet, Symbol}
 use Rattle.bus.specs.declared.bus.Bus.{Bus}
@@ -25,9 +26,11 @@ use Rattle.history.specs.Verdict.{verdict}
 use Rattle.history.specs.Observer.{reportOf, Report, silence, owns, taken, free, given, answered, failed, failedFree, tellsOut, tellsNak, tellsRead, handsOut, toOwner, tellsFirst, tellsIn, disturbed, cutShort, shareOf}
 use Rattle.history.specs.Observer as observer
 use Rattle.history.specs.Failed.{numberIn, Fails}
+use Rattle.history.specs.Reasons.{isFree, Taken, Leaves, Given, Answered}
 use Rattle.history.proofs.AsObserved.{tells-as-observed}
 use Rattle.history.proofs.FailedWhen.{why, then-told, reader-never}
 use Rattle.history.proofs.Shares.{before-won}
+use Rattle.history.proofs.ToldWhen.{reasons, then-taken, then-free, then-given, then-answered, first-silent}
 
 -- ---- only who sent its QQ is told owns
 
@@ -156,3 +159,42 @@ module _ (cs : List Call) (bytes : ByteCalls cs) (i : ℕ) (attached : i < attac
             (λ j. why (answersBy i cs) (shareOf (its .address) (its .master) g) h (sym (ap numberIn t) ∙ j) l),
             (λ f. ap numberIn t ∙ then-told (answersBy i cs) f),
           )
+
+  -- its share of the transfer, from what was heard
+  abbrev itsShare : Share
+  itsShare = shareOf (its .address) (its .master) g
+
+  -- it is told what its share says; only who wins the wire, of whose share nothing is told, is told owns
+  by-share : (h : Sound) → (told h ≡ tellsIn itsShare (answersBy i cs) h) ⊎ ((told h ≡ owns) × (tellsIn itsShare (answersBy i cs) h ≡ silence))
+  unfolding shareOf
+  by-share h = by (Wins h) refl
+    where
+      by : (q : Bool) → Wins h ≡ q → (told h ≡ tellsIn itsShare (answersBy i cs) h) ⊎ ((told h ≡ owns) × (tellsIn itsShare (answersBy i cs) h ≡ silence))
+      by true e = inr (in-turn h ∙ rw e, rw (before-won (momentIn (known i cs) h) (its .address) (its .master) (g .earlier) (g .now) e) (first-silent (answersBy i cs) (its .address) (its .master) once h))
+      by false e = inl (in-turn h ∙ rw e)
+
+  -- a report that is neither owns nor silence, exactly then
+  exactly : (h : Sound) (r : Report) {P : Type 0} → (owns ≡ r → ⊥) → (silence ≡ r → ⊥) → (tellsIn itsShare (answersBy i cs) h ≡ r → P) → (P → tellsIn itsShare (answersBy i cs) h ≡ r)
+      → (told h ≡ r) ↔ P
+  exactly h r o n why then =
+      ⊎-elim (λ t. ((λ j. why (sym t ∙ j)), (λ w. t ∙ then w))) (λ t. ((λ j. absurd (o (sym (t .0) ∙ j))), (λ w. absurd (n (sym (t .1) ∙ then w))))) (by-share h)
+
+  pub taken-exactly-when : (h : Sound) → (told h ≡ taken) ↔ Taken itsShare h
+  taken-exactly-when h = exactly h taken (λ e. clash (cc)) (λ e. clash (cc)) (reasons (answersBy i cs) itsShare h .why-taken) (then-taken (answersBy i cs))
+
+  pub given-exactly-when : (h : Sound) → (told h ≡ given) ↔ Given itsShare h
+  given-exactly-when h = exactly h given (λ e. clash (cc)) (λ e. clash (cc)) (reasons (answersBy i cs) itsShare h .why-given) (then-given (answersBy i cs))
+
+  pub answered-exactly-when : (h : Sound) → (told h ≡ answered) ↔ Answered itsShare h
+  answered-exactly-when h =
+      exactly h answered (λ e. clash (cc)) (λ e. clash (cc)) (reasons (answersBy i cs) itsShare h .why-answered) (then-answered (answersBy i cs))
+
+  -- free, alone or behind a failure
+  pub free-exactly-when : (h : Sound) → (isFree (told h) ≡ true) ↔ Leaves (answersBy i cs) itsShare h
+  free-exactly-when h =
+      ⊎-elim (λ t. ((λ j. reasons (answersBy i cs) itsShare h .why-free (sym (ap isFree t) ∙ j)), (λ w. ap isFree t ∙ then-free (answersBy i cs) w)))
+      (λ t. (
+        (λ j. absurd (false≢true (sym (ap isFree (t .0)) ∙ j))),
+        (λ w. absurd (false≢true (sym (ap isFree (t .1)) ∙ then-free (answersBy i cs) w))),
+      ))
+      (by-share h)

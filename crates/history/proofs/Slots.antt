@@ -8,6 +8,7 @@ use native.Mathlib.Omega.{arith}
 use borrow.Author.Tests.{eqb-true, eq-eqb, ne-eqb, lt-ltb}
 use lib.Dec.{eqb, ltb}
 use lib.ListN.{length, getD, length-append}
+use lib.Seq.{getD-append-seam}
 use Rattle.address.specs.Master.{isMaster, slaveOf}
 use Rattle.address.specs.Half.{lowHalf}
 use Rattle.address.specs.Role as address
@@ -533,15 +534,12 @@ module _ (s : Station) (ws : List Telegram) (book : Answers) (b : ℕ) (other : 
 
 -- ---- AA
 
-module _ (s : Station) (array : Sixteen (s .part .load)) (held : s .phase ≡ Owing → ⊥) (book : Answers) where
-  first-clear : (xs ys : List ℕ) {y : ℕ} {fs : List ℕ} → NoSyn fs → fs ≡ xs ++ (y ∷ ys) → y ≡ 0xAA → ⊥
-  first-clear xs ys {y} {fs} n f e =
-      no-syn-at n (length xs) (omega (arith, ap length f, length-append xs (y ∷ ys))) (ap (λ (l : List ℕ). getD l (length xs) 0) f ∙ at-seam xs y ys ∙ e)
-    where
-      at-seam : (xs : List ℕ) (y : ℕ) (ys : List ℕ) → getD (xs ++ (y ∷ ys)) (length xs) 0 ≡ y
-      at-seam [] y ys = refl
-      at-seam (x ∷ xs) y ys = at-seam xs y ys
+-- a symbol of a part is no AA
+pub sent-clear : (xs ys : List ℕ) {y : ℕ} {fs : List ℕ} → NoSyn fs → fs ≡ xs ++ (y ∷ ys) → y ≡ 0xAA → ⊥
+sent-clear xs ys {y} {fs} n f e =
+    no-syn-at n (length xs) (omega (arith, ap length f, length-append xs (y ∷ ys))) (ap (λ (l : List ℕ). getD l (length xs) 0) f ∙ getD-append-seam xs y ys 0 ∙ e)
 
+module _ (s : Station) (array : Sixteen (s .part .load)) (held : s .phase ≡ Owing → ⊥) (book : Answers) where
   pub syn-told-in : {u : Share} → MatchesIn s u → reportOf (hears s (Symbol 0xAA) .told) ≡ tellsIn u book (Symbol 0xAA)
   syn-told-in m = ap reportOf (syn-told s (aa (kind-syn 0xAA .1 refl))) ∙ go (s .phase) refl m
     where
@@ -549,7 +547,7 @@ module _ (s : Station) (array : Sixteen (s .part .load)) (held : s .phase ≡ Ow
           → reportOf (toldBySyn p) ≡ tellsIn u book (Symbol 0xAA)
       go p e matches.is-over = refl
       go p e matches.is-releases = refl
-      go p e (matches.is-sends {s = d} {n = n} {y = y} {ys = zs} k xs f l w) = rw (ne-eqb y 0xAA (first-clear xs zs (w .clear) f)) (by d)
+      go p e (matches.is-sends {s = d} {n = n} {y = y} {ys = zs} k xs f l w) = rw (ne-eqb y 0xAA (sent-clear xs zs (w .clear) f)) (by d)
         where
           by : (d : Sender) → reportOf (toldBySyn (Sending k (sentPart d) (attempt n))) ≡ observer.disturbed d
           by (owner t) = refl

@@ -5,6 +5,7 @@ pub mod Admission
 pub mod Observer
 pub mod Lines
 pub mod Failed
+pub mod Reasons
 pub mod Held
 pub mod Generator
 pub mod Seen

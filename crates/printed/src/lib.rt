@@ -1,1 +1,1 @@
-// No code: the theorem that what the bench program is handed to write is the scenario's output.
+// No code: what the bench program is handed to write is the scenario's output; its lines read back and stand in 01's order.
