@@ -101,12 +101,12 @@ module _ (cs : List Call) (bytes : ByteCalls cs) (i : ℕ) (attached : i < attac
 
   entries : (pb sb : ℕ) → Sixteen (answersBy i cs pb sb)
   entries pb sb =
-      subst Sixteen (answers-by-calls i cs bytes attached pb sb)
+      subst Sixteen (answers-by-calls cs bytes i attached pb sb)
       (answer-full (stationAt bus i .replies) pb sb (reachable-sane (by-calls cs bytes) i attached .entries))
 
   master-address : its .master ≡ true → isMaster (its .address) ≡ true
   master-address =
-      subst (λ (w : Who). w .master ≡ true → isMaster (w .address) ≡ true) (station-by-calls i cs bytes attached)
+      subst (λ (w : Who). w .master ≡ true → isMaster (w .address) ≡ true) (station-by-calls cs bytes i attached)
       (reachable-fit (by-calls cs bytes) .addressed i attached .master-address)
 
   -- who sends its QQ has read nothing yet
