@@ -1,6 +1,8 @@
 // Admission: whom a heard AA admits, who sends its QQ, and what it makes of what it then hears (01, "Admission").
 ghost use mathlib.Core.Path.{_≡_};
+ghost use Rattle.station.specs.declared.station.Station.{Station};
 ghost use Rattle.station.specs.Admission.{sinceNext, admits, restarted, bids, sayBid, noted, owned, withdrawn};
+ghost use Rattle.station.specs.Turn.{withAccess};
 use crate::phase::Attempt;
 use crate::phase::Phase;
 use crate::phase::Since;
@@ -12,7 +14,7 @@ use wire::part::Part;
 use wire::reader::Cursor;
 
 impl Since {
-    fn next(self) -> Since
+    pub(crate) fn next(self) -> Since
         ensures { λ r. ⌜ r ≡ sinceNext self ⌝ }
     {
         match self {
@@ -115,10 +117,10 @@ impl Station {
     }
 
     // It heard another symbol: it marks itself if the low half is its class.
-    pub(crate) fn withdrawn(mut self, s: u8) -> Station
-        ensures { λ r. ⌜ r ≡ withdrawn self s ⌝ }
+    pub(crate) fn marks(address: u8, s: u8) -> bool
+        ensures { λ r.
+            ⌜ ((t : Station) → t .address ≡ address → withAccess t (t .admitted) r (t .since) ≡ withdrawn t s) ⌝ }
     {
-        self.marked = s % 16 == self.address % 16;
-        self
+        s % 16 == address % 16
     }
 }

@@ -9,10 +9,12 @@ use crate::phase::Failure;
 use crate::phase::Phase;
 use crate::phase::Sound;
 use crate::phase::Told;
+use crate::read::Next;
 use crate::station::Station;
 use crate::station::Turn;
 use wire::part::Part;
 use wire::reader::Cursor;
+use wire::reader::Outcome;
 
 impl Station {
     pub fn hear(self, heard: Sound) -> Turn
@@ -145,13 +147,42 @@ impl Station {
         }
     }
 
-    // Who sent its QQ judges by it; everybody else reads.
-    fn hear_reading(self, s: u8, cursor: Cursor, part: Part, attempt: Attempt) -> Turn
+    // Who sent its QQ judges by it; everybody else reads. The station is made anew once, at the end: it is large.
+    fn hear_reading(mut self, s: u8, cursor: Cursor, part: Part, attempt: Attempt) -> Turn
         ensures { λ r. ⌜ r ≡ hearReading (bids self) (noted self) s cursor part attempt ⌝ }
     {
         if self.bids() {
-            return self.noted().hear_bid(s, cursor, part, attempt);
+            if s == self.address {
+                return self.noted().owned();
+            }
+            self.marked = Station::marks(self.address, s);
         }
-        self.noted().read(s, cursor, part, attempt)
+        let so_far = self.part;
+        let step = cursor.read(so_far, s);
+        let read = step.part;
+        let own = self.is_own(read.zz);
+        let outcome = step.outcome;
+        let next = match outcome {
+            Outcome::More => Next::read_on(step.cursor, part, attempt, own, read.zz),
+            Outcome::Cut => return self.lost(read, part, Failure::PairBroken),
+            Outcome::NoMaster => return self.lost(read, part, Failure::PairBroken),
+            Outcome::Unusable => return self.lost(read, part, Failure::PairBroken),
+            Outcome::TooLong => Next::whole(part, attempt, false, read.zz),
+            Outcome::BrokenPair => return self.lost(read, part, Failure::PairBroken),
+            Outcome::Whole(matched) => Next::whole(part, attempt, matched, read.zz),
+        };
+        let since = self.since;
+        let phase = next.phase;
+        let told = next.told;
+        self.part = read;
+        Turn {
+            station: Station {
+                admitted: false,
+                since: since.next(),
+                phase: phase,
+                ..self
+            },
+            told: told,
+        }
     }
 }

@@ -1,7 +1,11 @@
 // The reader of a part: the owner reads an answer, any other station a master part (01, "Reading", "Broadcast").
+// What a symbol makes of its reader is worked out in small values: a whole station would be copied at every step.
 ghost use mathlib.Core.Path.{_≡_};
+ghost use Rattle.station.specs.declared.station.Station.{Station};
 ghost use Rattle.station.specs.Addressed.{forAll, answered, isOwn};
-ghost use Rattle.station.specs.Table.{whole, addressed, readOn, reads, hearBid};
+ghost use Rattle.station.specs.Admission.{noted};
+ghost use Rattle.station.specs.Table.{readerFails, whole, addressed, readOn};
+ghost use Rattle.station.specs.Turn.{withPart, goes};
 use crate::phase::Attempt;
 use crate::phase::Failure;
 use crate::phase::Phase;
@@ -10,16 +14,22 @@ use crate::station::Station;
 use crate::station::Turn;
 use address::Role;
 use wire::part::Part;
+use wire::part::Telegram;
 use wire::reader::Cursor;
-use wire::reader::Outcome;
 use wire::reader::Place;
 
+// The phase that a reader goes into, and what it is told.
+pub struct Next {
+    pub phase: Phase,
+    pub told: Told,
+}
+
 impl Station {
-    // Whether the transfer's ZZ is FE.
-    pub(crate) fn for_all(self) -> bool
-        ensures { λ r. ⌜ r ≡ forAll (self .part .zz) ⌝ }
+    // Whether ZZ is FE.
+    pub(crate) fn for_all(zz: u8) -> bool
+        ensures { λ r. ⌜ r ≡ forAll zz ⌝ }
     {
-        match address::role_of(self.part.zz) {
+        match address::role_of(zz) {
             Role::Master => false,
             Role::Slave => false,
             Role::Broadcast => true,
@@ -51,29 +61,21 @@ impl Station {
         }
     }
 
-    // One symbol more of the part that it reads.
-    pub(crate) fn read(mut self, s: u8, cursor: Cursor, part: Part, attempt: Attempt) -> Turn
-        ensures { λ r. ⌜ r ≡ reads self s cursor part attempt ⌝ }
+    // The reading comes to nothing with this symbol; that is seldom, so here the station may be copied.
+    pub(crate) fn lost(mut self, read: Telegram, part: Part, failure: Failure) -> Turn
+        ensures { λ r. ⌜ r ≡ readerFails part failure (withPart (noted self) read) ⌝ }
     {
-        let so_far = self.part;
-        let step = cursor.read(so_far, s);
-        let read = step.part;
         self.part = read;
-        let outcome = step.outcome;
-        match outcome {
-            Outcome::More => self.read_on(step.cursor, part, attempt),
-            Outcome::Cut => self.fail_reader(part, Failure::PairBroken),
-            Outcome::NoMaster => self.fail_reader(part, Failure::PairBroken),
-            Outcome::Unusable => self.fail_reader(part, Failure::PairBroken),
-            Outcome::TooLong => self.whole(part, attempt, false),
-            Outcome::BrokenPair => self.fail_reader(part, Failure::PairBroken),
-            Outcome::Whole(matched) => self.whole(part, attempt, matched),
-        }
+        self.noted().fail_reader(part, failure)
     }
+}
 
-    // ZZ is tested when it has been read: PB comes next.
-    fn read_on(self, cursor: Cursor, part: Part, attempt: Attempt) -> Turn
-        ensures { λ r. ⌜ r ≡ readOn self cursor part attempt ⌝ }
+impl Next {
+    // ZZ is tested when it has been read: PB comes next. `own`: whether it is the reader's own address.
+    pub(crate) fn read_on(cursor: Cursor, part: Part, attempt: Attempt, own: bool, zz: u8) -> Next
+        ensures { λ r.
+            ⌜ ((s : Station) → s .part .zz ≡ zz → isOwn s zz ≡ own
+            → goes s (r .phase) (r .told) ≡ readOn s cursor part attempt) ⌝ }
     {
         let on = Phase::Reading {
             cursor: cursor,
@@ -82,54 +84,63 @@ impl Station {
         };
         let place = cursor.place;
         let Place::Pb = place else {
-            return self.go(on, Told::Silence);
+            return Next {
+                phase: on,
+                told: Told::Silence,
+            };
         };
-        self.addressed(on)
+        Next::addressed(on, own, zz)
     }
 
-    fn addressed(self, on: Phase) -> Turn
-        ensures { λ r. ⌜ r ≡ addressed self on ⌝ }
+    fn addressed(on: Phase, own: bool, zz: u8) -> Next
+        ensures { λ r.
+            ⌜ ((s : Station) → s .part .zz ≡ zz → isOwn s zz ≡ own
+            → goes s (r .phase) (r .told) ≡ addressed s on) ⌝ }
     {
-        if self.is_own(self.part.zz) {
-            return self.go(on, Told::Silence);
+        if own {
+            return Next {
+                phase: on,
+                told: Told::Silence,
+            };
         }
-        if self.for_all() {
-            return self.go(on, Told::Silence);
+        if Station::for_all(zz) {
+            return Next {
+                phase: on,
+                told: Told::Silence,
+            };
         }
-        self.go(Phase::Silent, Told::Silence)
+        Next {
+            phase: Phase::Silent,
+            told: Told::Silence,
+        }
     }
 
     // The part has come to its end. A broadcast is handed out at once; any other part is acknowledged.
-    fn whole(self, part: Part, attempt: Attempt, matched: bool) -> Turn
-        ensures { λ r. ⌜ r ≡ whole self part attempt matched ⌝ }
+    pub(crate) fn whole(part: Part, attempt: Attempt, matched: bool, zz: u8) -> Next
+        ensures { λ r.
+            ⌜ ((s : Station) → s .part .zz ≡ zz → goes s (r .phase) (r .told) ≡ whole s part attempt matched) ⌝ }
     {
-        let judging = Phase::Judging {
-            part: part,
-            attempt: attempt,
-            matched: matched,
-            acknowledged: false,
+        let judging = Next {
+            phase: Phase::Judging {
+                part: part,
+                attempt: attempt,
+                matched: matched,
+                acknowledged: false,
+            },
+            told: Told::Silence,
         };
         match part {
             Part::MasterPart => {
-                if self.for_all() {
-                    if matched {
-                        return self.go(Phase::Silent, Told::Given);
-                    }
-                    return self.go(Phase::Silent, Told::Silence);
+                if Station::for_all(zz) {
+                    let told = if matched { Told::Given } else { Told::Silence };
+                    return Next {
+                        phase: Phase::Silent,
+                        told: told,
+                    };
                 }
-                self.go(judging, Told::Silence)
+                judging
             }
-            Part::AnswerPart => self.go(judging, Told::Silence),
+            Part::AnswerPart => judging,
         }
-    }
-
-    // Who sent its QQ owns the wire, or withdraws and reads the symbol as QQ like any other station.
-    pub(crate) fn hear_bid(self, s: u8, cursor: Cursor, part: Part, attempt: Attempt) -> Turn
-        ensures { λ r. ⌜ r ≡ hearBid self s cursor part attempt ⌝ }
-    {
-        if s == self.address {
-            return self.owned();
-        }
-        self.withdrawn(s).read(s, cursor, part, attempt)
     }
 }

@@ -57,7 +57,7 @@ impl Station {
         };
         match part {
             Part::MasterPart => {
-                if self.for_all() {
+                if Station::for_all(self.part.zz) {
                     return self.go(Phase::Releasing, Told::Taken);
                 }
                 self.go(awaiting, Told::Silence)
