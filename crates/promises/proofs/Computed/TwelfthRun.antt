@@ -138,7 +138,7 @@ one-contends =
       waits = omega (arith, computed .one-holds);
     }
 
-ranked : (x y r q : ℕ) → rankOf x ≡ Of q → y ≡ x → rankOf y ≡ Of r → r ≡ q
+pub ranked : (x y r q : ℕ) → rankOf x ≡ Of q → y ≡ x → rankOf y ≡ Of r → r ≡ q
 ranked x y r q e p f = let g = ap rankOf p in cc
 
 pub ten-least : LeastRank begins 0
