@@ -40,10 +40,10 @@ use Rattle.history.proofs.Shares.{none-admitted}
 
 -- ---- an attached station of a reachable bus
 
-abbrev TurnObserved : History → Turn → Type 0
+abbrev pub TurnObserved : History → Turn → Type 0
 TurnObserved g t = Observed (t .station .address) (t .station .master) g (t .station)
 
-abbrev SeatObserved : Bus → ℕ → History → Type 0
+abbrev pub SeatObserved : Bus → ℕ → History → Type 0
 SeatObserved b i g = TurnObserved g (turnAt b i)
 
 newcomer-observed : (a : ℕ) (m : Bool) → TurnObserved nothing (newcomer a m)
@@ -99,10 +99,10 @@ module _ (b : Bus) (r : Reachable b) (i : ℕ) (l : i < attachedTo b) (g : Histo
 -- ---- any calls
 
 module _ (i : ℕ) where
-  record Followed (b : Bus) (g : History) : Type 0 where
+  pub record Followed (b : Bus) (g : History) : Type 0 where
     -- before the first slot nothing was heard
-    idle : b .ran ≡ false → g ≡ nothing
-    observed : i < attachedTo b → SeatObserved b i g
+    pub idle : b .ran ≡ false → g ≡ nothing
+    pub observed : i < attachedTo b → SeatObserved b i g
 
   module _ (b : Bus) (r : Reachable b) {g : History} (w : Followed b g) where
     -- a call about one seat
@@ -151,7 +151,7 @@ module _ (i : ℕ) where
               (turn-later b r i l g (w .observed l) h);
         }
 
-    call-followed : (c : Call) → Followed (afterCall b c) (seenCall i b g c)
+    pub call-followed : (c : Call) → Followed (afterCall b c) (seenCall i b g c)
     unfolding slotRun
     call-followed (attach a m) = attach-followed (did-attach b a m)
     call-followed (queue qq zz pb sb bytes) = queue-followed (did-queue b qq zz pb sb bytes)
@@ -165,11 +165,11 @@ module _ (i : ℕ) where
   calls-followed b g (c ∷ cs) r k w =
       calls-followed (afterCall b c) (seenCall i b g c) cs (reachable-more c r (k .0)) (k .1) (call-followed b r w c)
 
-  on-followed : Followed poweredOn nothing
+  pub on-followed : Followed poweredOn nothing
   unfolding poweredOn attachedTo
   on-followed = record { idle = λ _. refl; observed = λ l. absurd (not-suc-le-zero l) }
 
-  on-reachable : Reachable poweredOn
+  pub on-reachable : Reachable poweredOn
   unfolding afterCalls
   on-reachable = by-calls [] tt
 

@@ -8,3 +8,5 @@ pub mod Failed
 pub mod Held
 pub mod Generator
 pub mod Seen
+pub mod Word
+pub mod Agrees
