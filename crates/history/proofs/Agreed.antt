@@ -8,6 +8,7 @@ use borrow.Author.Tests.{eq-eqb, ltb-true}
 use lib.Dec.{eqb, ltb}
 use Rattle.wire.specs.Form.{headOf, bytesOf, telegramForm, answerForm}
 use Rattle.wire.specs.declared.part.Telegram.{Telegram}
+use Rattle.station.specs.Events.{Event, tells as lined}
 use Rattle.station.specs.declared.phase.Sound.{Sound}
 use Rattle.station.specs.declared.phase.Sound.the-variants.{Quiet, Symbol}
 use Rattle.station.specs.declared.station.Turn.{Turn}
@@ -20,17 +21,18 @@ use Rattle.promises.specs.Orders.{seatsOf}
 use Rattle.promises.proofs.Shared.FitKept.{reachable-fit}
 use Rattle.promises.proofs.Shared.Outgoing.{reachable-more}
 use Rattle.promises.proofs.Shared.Seats.{slot-seat}
-use Rattle.history.specs.Agrees.{sameSound, sameReport, wordIn, sameBytes, sameTelegrams, every, saysLaw, tellsLaw, observed, handsAs, handsLaw, heldLaw, holdsFrom, holdsIn, eachLaw, wordAs, wordLaw, generatorLaw, allHoldFrom, allHoldIn, agrees}
+use Rattle.history.specs.Agrees.{sameSound, sameReport, wordIn, sameBytes, sameTelegrams, wordOf, sameLines, every, saysLaw, tellsLaw, observed, handsAs, handsLaw, linesLaw, heldLaw, answersAs, answersLaw, holdsFrom, holdsIn, eachLaw, wordAs, wordLaw, generatorLaw, allHoldFrom, allHoldIn, agrees}
 use Rattle.history.specs.Failed.{numberIn}
 use Rattle.history.specs.Generator.{soundsCall, quietRun}
-use Rattle.history.specs.Lines.{HandsOut, partIn, askedIn}
+use Rattle.history.specs.Lines.{lines, HandsOut, partIn, askedIn}
 use Rattle.history.specs.Moments.{History, nothing}
 use Rattle.history.specs.Observer.{Report, silence, owns, taken, free, given, answered, failed, failedFree, reportOf, shareOf}
 use Rattle.history.specs.Seen.{seenCall}
 use Rattle.history.specs.Share.{Share}
 use Rattle.history.specs.Word.{bitOf, bitHeard, Heard, quiet, anded}
 use Rattle.history.proofs.Anded.{word-is-the-and}
-use Rattle.history.proofs.AsObserved.{SeatObserved, Followed, seat-says, seat-tells, seat-hands, call-followed, on-followed, on-reachable}
+use Rattle.history.proofs.AnswersByCalls.{answers-by-calls}
+use Rattle.history.proofs.AsObserved.{SeatObserved, Followed, seat-says, seat-tells, seat-hands, seat-lines, call-followed, on-followed, on-reachable}
 use Rattle.history.proofs.Generates.{call-counts, counted-says, none}
 use Rattle.history.proofs.HeldByCalls.{held-by-calls}
 
@@ -68,6 +70,19 @@ self-telegrams (t ∷ ts) =
 same-telegrams : (ts us : List Telegram) → ts ≡ us → sameTelegrams ts us ≡ true
 same-telegrams ts us e = subst (λ (vs : List Telegram). sameTelegrams ts vs ≡ true) e (self-telegrams ts)
 
+self-lines : (es : List Event) → sameLines es es ≡ true
+self-lines [] = refl
+self-lines (e ∷ es) =
+    both (eqb (e .station) (e .station) && eqb (wordOf (e .word)) (wordOf (e .word)) && sameBytes (e .values) (e .values) && sameBytes (e .leaving) (e .leaving)) (sameLines es es)
+    (both (eqb (e .station) (e .station) && eqb (wordOf (e .word)) (wordOf (e .word)) && sameBytes (e .values) (e .values)) (sameBytes (e .leaving) (e .leaving))
+    (both (eqb (e .station) (e .station) && eqb (wordOf (e .word)) (wordOf (e .word))) (sameBytes (e .values) (e .values))
+    (both (eqb (e .station) (e .station)) (eqb (wordOf (e .word)) (wordOf (e .word))) (eq-eqb (e .station) (e .station) refl) (eq-eqb (wordOf (e .word)) (wordOf (e .word)) refl))
+    (self-bytes (e .values))) (self-bytes (e .leaving)))
+    (self-lines es)
+
+same-lines : (es fs : List Event) → es ≡ fs → sameLines es fs ≡ true
+same-lines es fs q = subst (λ (ds : List Event). sameLines es ds ≡ true) q (self-lines es)
+
 every-one : {A : Type 0} (f : A → Bool) (xs : List A) → ((x : A) → f x ≡ true) → every f xs ≡ true
 every-one f [] w = refl
 every-one f (x ∷ xs) w = both (f x) (every f xs) (w x) (every-one f xs w)
@@ -97,13 +112,26 @@ module _ (b : Bus) (r : Reachable b) (i : ℕ) (l : i < attachedTo b) (g : Histo
       subst (λ (t : Turn). handsAs (observed b i g h) (shareOf (stationAt b i .address) (stationAt b i .master) g) h (t .station .part) ≡ true)
       (sym (slot-seat b h i (reachable-fit r .array) l)) (hands-same (observed b i g h) _ h _ (seat-hands b r i l g w h))
 
+  lines-one : (h : Sound)
+      → sameLines (lined (turnAt (slotHeard b h) i)) (lines (stationAt b i .address) (observed b i g h) (turnAt (slotHeard b h) i .station .part)) ≡ true
+  lines-one h =
+      same-lines _ _ (subst (λ (t : Turn). lined t ≡ lines (stationAt b i .address) (observed b i g h) (t .station .part))
+      (sym (slot-seat b h i (reachable-fit r .array) l)) (seat-lines b r i l g w h))
+
+  answers-one : (c : Call) (pb sb : ℕ) → answersAs b i c pb sb ≡ true
+  answers-one c pb sb = same-bytes _ _ (ap bytesOf (answers-by-calls b r i l pb sb c))
+
   each-holds : (c : Call) → eachLaw b i g c ≡ true
   each-holds c =
-      both (saysLaw b i g c && tellsLaw b i g c && handsLaw b i g c) (heldLaw b i g c)
+      both (saysLaw b i g c && tellsLaw b i g c && handsLaw b i g c && linesLaw b i g c && heldLaw b i g c) (answersLaw b i g c)
+      (both (saysLaw b i g c && tellsLaw b i g c && handsLaw b i g c && linesLaw b i g c) (heldLaw b i g c)
+      (both (saysLaw b i g c && tellsLaw b i g c && handsLaw b i g c) (linesLaw b i g c)
       (both (saysLaw b i g c && tellsLaw b i g c) (handsLaw b i g c)
       (both (saysLaw b i g c) (tellsLaw b i g c) (same-sound _ _ (seat-says b r i l g w)) (every-one _ (soundsCall b [] c) tells-one))
       (every-one _ (soundsCall b [] c) hands-one))
-      (same-telegrams _ _ (held-by-calls b r i l c))
+      (every-one _ (soundsCall b [] c) lines-one))
+      (same-telegrams _ _ (held-by-calls b r i l c)))
+      (both (answersAs b i c 0x50 0x02) (answersAs b i c 0x50 0x03) (answers-one c 0x50 0x02) (answers-one c 0x50 0x03))
 
 -- ---- any calls
 

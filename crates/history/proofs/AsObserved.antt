@@ -77,6 +77,15 @@ module _ (b : Bus) (r : Reachable b) (i : ℕ) (l : i < attachedTo b) (g : Histo
       hands-now s (k .outbox) (f .array) (k .possible) (λ pb sb. answer-full (s .replies) pb sb (k .entries)) (f .outgoing)
       (reachable-fit r .addressed i l .master-address) g w h
 
+  -- its lines
+  pub seat-lines : (h : Sound)
+      → tells (turned h (turnAt b i)) ≡ lines (s .address) (observer.tells (s .address) (s .master) g (waiting (s .outbox)) (s .replies) h) (turned h (turnAt b i) .station .part)
+  unfolding tells
+  seat-lines h =
+      let t = turned h (turnAt b i) in
+      lines-are (t .told) (t .station .address) (t .station .part)
+      ∙ ap₂ (λ (a : ℕ) (r : Report). lines a r (t .station .part)) (hears-lasting (ready s) h .address ∙ ready-lasting s .address) (seat-tells h)
+
   -- the telegram held longest leaves where free is told
   pub seat-left : (h : Sound) → waiting (turned h (turnAt b i) .station .outbox) ≡ leftBy (reportOf (turned h (turnAt b i) .told)) (waiting (s .outbox))
   seat-left h =
@@ -214,12 +223,9 @@ module _ (cs : List Call) (bytes : ByteCalls cs) (i : ℕ) (attached : i < attac
 
   -- its lines are those of the report, with its address and that part
   pub lines-as-observed : (h : Sound) → tells (after h) ≡ lines (its .address) (report h) (after h .station .part)
-  unfolding tells
   lines-as-observed h =
-      let e : after h .station .address ≡ its .address =
-      ap (λ (t : Turn). t .station .address) (same-turn h) ∙ hears-lasting (ready its) h .address ∙ ready-lasting its .address in
-      lines-are (after h .told) (after h .station .address) (after h .station .part)
-      ∙ ap₂ (λ (a : ℕ) (r : Report). lines a r (after h .station .part)) e (tells-as-observed h)
+      subst (λ (t : Turn). tells t ≡ lines (its .address) (report h) (t .station .part)) (sym (same-turn h))
+      (seat-lines bus (by-calls cs bytes) i attached (seen i cs) (followed i cs bytes .observed attached) h)
 
   -- the telegram held longest leaves its queue exactly where free is told
   pub left-as-observed : (h : Sound) → waiting (after h .station .outbox) ≡ leftBy (report h) (waiting (its .outbox))

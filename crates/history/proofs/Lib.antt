@@ -1,6 +1,7 @@
 pub mod Access
 pub mod Agreed
 pub mod Anded
+pub mod AnswersByCalls
 pub mod AsObserved
 pub mod AtLeastTwelve
 pub mod ElevenTooFew

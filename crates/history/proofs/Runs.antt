@@ -3,6 +3,7 @@
 use mathlib.Core.Path.{_≡_, refl}
 use mathlib.Core.Bool.{Bool, true, false}
 use mathlib.Core.List.{List, [], _∷_, _++_}
+use Rattle.station.specs.Events.{tells as lined}
 use Rattle.station.specs.Outbox.{waiting}
 use Rattle.station.specs.declared.phase.Sound.the-variants.{Quiet, Symbol}
 use Rattle.promises.specs.Calls.{Call, attach, queue, reply, slot, heard}
@@ -15,7 +16,7 @@ use Rattle.history.specs.Verdict.{verdict}
 
 -- whoever unfolds this opens every definition that the comparison goes through
 unfoldable pub compared : List Call → Bool
-unfolding run waiting admittedBy holdsFrom allHoldFrom generates shareOf says tells verdict
+unfolding run waiting lined admittedBy holdsFrom allHoldFrom generates shareOf says tells verdict
 compared cs = agrees cs
 
 -- ---- one telegram and its answer
@@ -102,6 +103,10 @@ toMastersSlave = attach 0x10 true ∷ attach 0x30 true ∷ reply 0x15 0x50 0x02 
 abbrev pub toAll : List Call
 toAll = attach 0x10 true ∷ attach 0x30 true ∷ attach 0x08 false ∷ queue 0x10 0xFE 0x50 0x02 (0xAA ∷ 0xA9 ∷ []) ∷ heard (Symbol 0xAA) ∷ slots 12
 
+-- 10 sends to 09, at which nobody is attached: nine quiet slots, the generator's AA, and failed 4
+abbrev pub neverAcknowledged : List Call
+neverAcknowledged = attach 0x10 true ∷ queue 0x10 0x09 0x50 0x02 [] ∷ heard (Symbol 0xAA) ∷ slots 16
+
 -- 10 holds two telegrams, and a third comes during the first: they go out in that order
 abbrev pub oldestFirst : List Call
 oldestFirst = attach 0x10 true ∷ queue 0x10 0xFE 0x50 0x02 [] ∷ queue 0x10 0xFE 0x50 0x03 [] ∷ heard (Symbol 0xAA) ∷ slots 3 ++ (queue 0x10 0xFE 0x50 0x04 [] ∷ []) ++ slots 18
@@ -115,6 +120,10 @@ two = attach 0x10 true ∷ attach 0x01 true ∷ queue 0x10 0xFE 0x50 0x02 [] ∷
 -- 10 AND 01 is 00, and 10 marks itself: the next AA admits it alone, the one after its telegram both
 abbrev pub collision : List Call
 collision = two ++ symbols (0xAA ∷ []) ++ slots 1 ++ symbols (0xAA ∷ []) ++ slots 9
+
+-- after the collision a quiet slot, which is no symbol: the next AA admits 10 alone
+abbrev pub collisionThenQuiet : List Call
+collisionThenQuiet = two ++ symbols (0xAA ∷ []) ++ slots 1 ++ (heard Quiet ∷ []) ++ symbols (0xAA ∷ []) ++ slots 1
 
 -- after the collision another symbol: the next AA admits both
 abbrev pub twoSymbols : List Call
@@ -288,12 +297,12 @@ abbrev pub runs : List (List Call)
 runs =
     answered ∷ repeated ∷ refusedTwice ∷ answerRefusedTwice ∷ acknowledgedLate ∷ otherSymbol ∷ answerOtherSymbol ∷ cutShort
     ∷ disturbed ∷ cutWhileSending ∷ answerDisturbed ∷ repeatDisturbed ∷ releaseLost ∷ releaseDisturbed ∷ entryChanged ∷ noEntry
-    ∷ toMaster ∷ toMastersSlave ∷ toAll ∷ oldestFirst ∷ collision ∷ twoSymbols ∷ marksGoOut ∷ nothingAfterSyn
-    ∷ newcomer ∷ withdrawnReads ∷ firstAA ∷ beforeAA ∷ wonAtOnce ∷ wrongCrc ∷ wrongCrcTaken ∷ wrongTwice
-    ∷ rightOnlyFirst ∷ tooLong ∷ tooLongToAll ∷ sixteen ∷ toAllRight ∷ toAllWrong ∷ noMaster ∷ ownAddress
-    ∷ escapeAsZz ∷ escapeAsPb ∷ escapeAsSb ∷ elsewhere ∷ pairInData ∷ pairInCrc ∷ brokenPair ∷ brokenPairInCrc
-    ∷ masterRead ∷ wrongAnswer ∷ wrongAnswerTaken ∷ tooLongAnswer ∷ brokenAnswer ∷ brokenAnswersCrc ∷ cutAfterEscape ∷ pairInAnswer
-    ∷ nineQuiet ∷ synLost ∷ countedAnew ∷ []
+    ∷ toMaster ∷ toMastersSlave ∷ toAll ∷ neverAcknowledged ∷ oldestFirst ∷ collision ∷ collisionThenQuiet ∷ twoSymbols
+    ∷ marksGoOut ∷ nothingAfterSyn ∷ newcomer ∷ withdrawnReads ∷ firstAA ∷ beforeAA ∷ wonAtOnce ∷ wrongCrc
+    ∷ wrongCrcTaken ∷ wrongTwice ∷ rightOnlyFirst ∷ tooLong ∷ tooLongToAll ∷ sixteen ∷ toAllRight ∷ toAllWrong
+    ∷ noMaster ∷ ownAddress ∷ escapeAsZz ∷ escapeAsPb ∷ escapeAsSb ∷ elsewhere ∷ pairInData ∷ pairInCrc
+    ∷ brokenPair ∷ brokenPairInCrc ∷ masterRead ∷ wrongAnswer ∷ wrongAnswerTaken ∷ tooLongAnswer ∷ brokenAnswer ∷ brokenAnswersCrc
+    ∷ cutAfterEscape ∷ pairInAnswer ∷ nineQuiet ∷ synLost ∷ countedAnew ∷ []
 
 pub runs-agree : every agrees runs ≡ true
 unfolding compared

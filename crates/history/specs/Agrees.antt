@@ -5,7 +5,10 @@ use Prim.Native.Nat.{ℕ}
 use lib.Dec.{eqb, ltb}
 use Rattle.wire.specs.Form.{headOf, bytesOf, telegramForm, answerForm}
 use Rattle.wire.specs.declared.part.Telegram.{Telegram}
+use Rattle.station.specs.Events.{Event, Word, tells as lined}
+use Rattle.station.specs.Events as word
 use Rattle.station.specs.Outbox.{waiting}
+use Rattle.station.specs.Replies.{answerFor}
 use Rattle.station.specs.declared.phase.Sound.{Sound}
 use Rattle.station.specs.declared.phase.Sound.the-variants.{Quiet, Symbol}
 use Rattle.bus.specs.declared.bus.Bus.{Bus}
@@ -14,10 +17,11 @@ use Rattle.bus.specs.Slot.{generatorSays, saidBy, spoken, slotHeard}
 use Rattle.promises.specs.Calls.{Call, afterCall, afterCalls}
 use Rattle.promises.specs.Fit.{stationAt}
 use Rattle.promises.specs.Orders.{seatsOf}
+use Rattle.history.specs.Entries.{answerAfter}
 use Rattle.history.specs.Failed.{numberIn}
 use Rattle.history.specs.Generator.{soundsCall, generates}
 use Rattle.history.specs.Held.{heldAfter}
-use Rattle.history.specs.Lines.{partIn, askedIn}
+use Rattle.history.specs.Lines.{lines, partIn, askedIn}
 use Rattle.history.specs.Moments.{History, nothing}
 use Rattle.history.specs.Observer.{Report, silence, owns, taken, free, given, answered, failed, failedFree, reportOf, shareOf, says, tells}
 use Rattle.history.specs.Seen.{seenCall}
@@ -59,6 +63,23 @@ sameTelegrams (t ∷ ts) [] = false
 sameTelegrams (t ∷ ts) (u ∷ us) =
     sameBytes (headOf t) (headOf u) && sameBytes (bytesOf (t .load)) (bytesOf (u .load)) && sameTelegrams ts us
 
+-- a number for each word of a line
+abbrev pub wordOf : Word → ℕ
+wordOf word.owns = 1
+wordOf word.taken = 2
+wordOf word.failed = 3
+wordOf word.free = 4
+wordOf word.given = 5
+wordOf word.answer = 6
+
+abbrev pub sameLines : List Event → List Event → Bool
+sameLines [] [] = true
+sameLines [] (f ∷ fs) = false
+sameLines (e ∷ es) [] = false
+sameLines (e ∷ es) (f ∷ fs) =
+    eqb (e .station) (f .station) && eqb (wordOf (e .word)) (wordOf (f .word)) && sameBytes (e .values) (f .values)
+    && sameBytes (e .leaving) (f .leaving) && sameLines es fs
+
 abbrev pub every : {A : Type 0} → (A → Bool) → List A → Bool
 every f [] = true
 every f (x ∷ xs) = f x && every f xs
@@ -99,14 +120,27 @@ abbrev pub handsLaw : Law
 handsLaw b i g c =
     every (λ h. handsAs (observed b i g h) (shareOf (stationAt b i .address) (stationAt b i .master) g) h (turnAt (slotHeard b h) i .station .part)) (soundsCall b [] c)
 
+-- lines-as-observed, likewise
+abbrev pub linesLaw : Law
+linesLaw b i g c =
+    every (λ h. sameLines (lined (turnAt (slotHeard b h) i)) (lines (stationAt b i .address) (observed b i g h) (turnAt (slotHeard b h) i .station .part))) (soundsCall b [] c)
+
 -- held-by-calls
 abbrev pub heldLaw : Law
 heldLaw b i g c =
     sameTelegrams (waiting (stationAt (afterCall b c) i .outbox)) (heldAfter b i (waiting (stationAt b i .outbox)) c)
 
--- all four
+-- answers-by-calls, for two commands
+abbrev pub answersAs : Bus → ℕ → Call → ℕ → ℕ → Bool
+answersAs b i c pb sb =
+    sameBytes (bytesOf (answerFor (stationAt (afterCall b c) i .replies) pb sb)) (bytesOf (answerAfter b i pb sb (answerFor (stationAt b i .replies) pb sb) c))
+
+abbrev pub answersLaw : Law
+answersLaw b i g c = answersAs b i c 0x50 0x02 && answersAs b i c 0x50 0x03
+
+-- all of them
 abbrev pub eachLaw : Law
-eachLaw b i g c = saysLaw b i g c && tellsLaw b i g c && handsLaw b i g c && heldLaw b i g c
+eachLaw b i g c = saysLaw b i g c && tellsLaw b i g c && handsLaw b i g c && linesLaw b i g c && heldLaw b i g c && answersLaw b i g c
 
 -- ---- a run
 

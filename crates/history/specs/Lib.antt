@@ -8,5 +8,6 @@ pub mod Failed
 pub mod Held
 pub mod Generator
 pub mod Seen
+pub mod Entries
 pub mod Word
 pub mod Agrees

@@ -44,7 +44,7 @@ taken-behind o t k e = go (ltb (o .held) queueDepth) refl
         absurd (false≢true (sym (ap (λ (a : Accepted). a .taken) f) ∙ e))
 
 -- the station of the call has that turn
-turn-there : {b c : Bus} {i : ℕ} {t : Turn} → Reachable b → i < attachedTo b → OneTurn b i t c → turnAt c i ≡ t
+pub turn-there : {b c : Bus} {i : ℕ} {t : Turn} → Reachable b → i < attachedTo b → OneTurn b i t c → turnAt c i ≡ t
 unfolding turnAt
 turn-there {b} {c} {i} {t} r l o =
     rw (o .here) (getD-set-same (b .turns) i t unseated (omega (arith, attached-fit b, reachable-fit r .array)))
