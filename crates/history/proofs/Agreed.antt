@@ -8,7 +8,7 @@ use borrow.Author.Tests.{eq-eqb, ltb-true}
 use lib.Dec.{eqb, ltb}
 use Rattle.wire.specs.Form.{headOf, bytesOf, telegramForm, answerForm}
 use Rattle.wire.specs.declared.part.Telegram.{Telegram}
-use Rattle.station.specs.Events.{Event}
+use Rattle.station.specs.Events.{Event, tells as lined}
 use Rattle.station.specs.Outbox.{waiting}
 use Rattle.station.specs.Replies.{answerFor}
 use Rattle.station.specs.declared.phase.Sound.{Sound}

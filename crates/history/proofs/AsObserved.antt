@@ -41,7 +41,7 @@ use Rattle.history.proofs.Slots.{moment}
 use Rattle.history.specs.Lines.{lines, HandsOut, leftBy}
 use Rattle.history.specs.Observer.{reportOf, Report}
 use Rattle.history.proofs.HandsOut.{lines-are}
-use Rattle.history.proofs.HeldByCalls.{whoOf, slot-held, Account, account-call, on-account, account, station-by-calls, held-by-calls}
+use Rattle.history.proofs.HeldByCalls.{whoOf, slot-held, Account, account-call, on-account, account, held-by-calls}
 use Rattle.history.proofs.Shares.{none-admitted}
 
 -- ---- an attached station of a reachable bus
@@ -246,12 +246,11 @@ module _ (cs : List Call) (bytes : ByteCalls cs) (i : ℕ) (attached : i < attac
   -- its lines are those of the report, with its address and that part
   pub lines-as-observed : (h : Sound) → tells (after h) ≡ lines (its .address) (report h) (after h .station .part)
   lines-as-observed h =
-      let s = stationAt bus i in
-      let e : after h .station .address ≡ its .address =
-      ap (λ (t : Turn). t .station .address) (same-turn h) ∙ hears-lasting (ready s) h .address ∙ ready-lasting s .address
-      ∙ ap (λ (w : Who). w .address) (station-by-calls cs bytes i attached) in
-      lines-are (after h .told) (after h .station .address) (after h .station .part)
-      ∙ ap₂ (λ (a : ℕ) (r : Report). lines a r (after h .station .part)) e (tells-as-observed h)
+      subst (λ (t : Turn). tells t ≡ lines (its .address) (report h) (t .station .part)) (sym (same-turn h))
+      (by-its-calls
+      (λ w ts f.
+      tells (turned h (turnAt bus i)) ≡ lines (w .address) (observer.tells (w .address) (w .master) (seen i cs) ts f h) (turned h (turnAt bus i) .station .part))
+      (seat-lines bus (by-calls cs bytes) i attached (seen i cs) (followed i cs bytes .observed attached) h))
 
   -- the telegram held longest leaves its queue exactly where free is told
   pub left-as-observed : (h : Sound) → waiting (after h .station .outbox) ≡ leftBy (report h) (heldBy i cs)

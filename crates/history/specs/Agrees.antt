@@ -6,7 +6,7 @@ use lib.Dec.{eqb, ltb}
 use lib.ListN.{getD}
 use Rattle.wire.specs.Form.{headOf, bytesOf, telegramForm, answerForm}
 use Rattle.wire.specs.declared.part.Telegram.{Telegram}
-use Rattle.station.specs.Events.{Event, Word}
+use Rattle.station.specs.Events.{Event, Word, tells as lined}
 use Rattle.station.specs.Events as word
 use Rattle.station.specs.Outbox.{waiting}
 use Rattle.station.specs.Replies.{answerFor}

@@ -1,7 +1,7 @@
 -- Runs that meet what the theorems ask for, computed: none of them speaks of nothing. Assumes nothing.
 use mathlib.Core.Path.{_≡_, refl}
 use mathlib.Core.Bool.{Bool, true, false}
-use mathlib.Core.List.{List, [], _∷_, _++_, List·Permᴰ·swap}
+use mathlib.Core.List.{List, [], _∷_, _++_, List·Permᴰ as Permutation, List·Permᴰ·swap}
 use Prim.Native.Nat.{ℕ}
 use native.Mathlib.Omega.{arith}
 use Rattle.station.specs.Phase.{owner}
