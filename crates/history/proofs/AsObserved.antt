@@ -41,15 +41,15 @@ use Rattle.history.proofs.Slots.{moment}
 use Rattle.history.specs.Lines.{lines, HandsOut, leftBy}
 use Rattle.history.specs.Observer.{reportOf, Report}
 use Rattle.history.proofs.HandsOut.{lines-are}
-use Rattle.history.proofs.HeldByCalls.{whoOf, slot-held, Account, account-call, on-account, account, station-by-calls, held-by-calls}
+use Rattle.history.proofs.HeldByCalls.{whoOf, slot-held, Account, account-call, on-account, account, held-by-calls}
 use Rattle.history.proofs.Shares.{none-admitted}
 
 -- ---- an attached station of a reachable bus
 
-abbrev TurnObserved : History → Turn → Type 0
+abbrev pub TurnObserved : History → Turn → Type 0
 TurnObserved g t = Observed (t .station .address) (t .station .master) g (t .station)
 
-abbrev SeatObserved : Bus → ℕ → History → Type 0
+abbrev pub SeatObserved : Bus → ℕ → History → Type 0
 SeatObserved b i g = TurnObserved g (turnAt b i)
 
 newcomer-observed : (a : ℕ) (m : Bool) → TurnObserved nothing (newcomer a m)
@@ -83,6 +83,15 @@ module _ (b : Bus) (r : Reachable b) (i : ℕ) (l : i < attachedTo b) (g : Histo
       hands-now s (k .outbox) (f .array) (k .possible) (λ pb sb. answer-full (s .replies) pb sb (k .entries)) (f .outgoing)
       (reachable-fit r .addressed i l .master-address) g w h
 
+  -- its lines
+  pub seat-lines : (h : Sound)
+      → tells (turned h (turnAt b i)) ≡ lines (s .address) (observer.tells (s .address) (s .master) g (waiting (s .outbox)) (answerFor (s .replies)) h) (turned h (turnAt b i) .station .part)
+  unfolding tells
+  seat-lines h =
+      let t = turned h (turnAt b i) in
+      lines-are (t .told) (t .station .address) (t .station .part)
+      ∙ ap₂ (λ (a : ℕ) (r : Report). lines a r (t .station .part)) (hears-lasting (ready s) h .address ∙ ready-lasting s .address) (seat-tells h)
+
   seat-later : (h : Sound) → Observed (s .address) (s .master) (later g (moment (waiting (s .outbox)) (answerFor (s .replies)) h)) (turned h (turnAt b i) .station)
   seat-later h =
       let k = reachable-sane r i l in
@@ -99,10 +108,10 @@ module _ (b : Bus) (r : Reachable b) (i : ℕ) (l : i < attachedTo b) (g : Histo
 -- ---- any calls
 
 module _ (i : ℕ) where
-  record Followed (b : Bus) (g : History) : Type 0 where
+  pub record Followed (b : Bus) (g : History) : Type 0 where
     -- before the first slot nothing was heard
-    idle : b .ran ≡ false → g ≡ nothing
-    observed : i < attachedTo b → SeatObserved b i g
+    pub idle : b .ran ≡ false → g ≡ nothing
+    pub observed : i < attachedTo b → SeatObserved b i g
 
   module _ (b : Bus) (r : Reachable b) {g : History} (w : Followed b g) where
     -- a call about one seat
@@ -154,7 +163,7 @@ module _ (i : ℕ) where
               (sym (slot-seat b h i (reachable-fit r .array) l)) (turn-later b r i l (k .history) (w .observed l) h));
         }
 
-    call-followed : (c : Call) → Followed (afterCall b c) (seenCall b k c)
+    pub call-followed : (c : Call) → Followed (afterCall b c) (seenCall b k c)
     unfolding slotRun
     call-followed (attach a m) = attach-followed b r w (did-attach b a m)
     call-followed (queue qq zz pb sb bytes) = queue-followed b r w (did-queue b qq zz pb sb bytes)
@@ -169,7 +178,7 @@ module _ (i : ℕ) where
   calls-followed b k (c ∷ cs) r y v w =
       calls-followed (afterCall b c) (knownCall i b k c) cs (reachable-more c r (y .0)) (y .1) (account-call i b r k v c) (call-followed b r k v w c)
 
-  on-followed : Followed poweredOn nothing
+  pub on-followed : Followed poweredOn nothing
   unfolding poweredOn attachedTo
   on-followed = record { idle = λ _. refl; observed = λ l. absurd (not-suc-le-zero l) }
 
@@ -236,14 +245,12 @@ module _ (cs : List Call) (bytes : ByteCalls cs) (i : ℕ) (attached : i < attac
 
   -- its lines are those of the report, with its address and that part
   pub lines-as-observed : (h : Sound) → tells (after h) ≡ lines (its .address) (report h) (after h .station .part)
-  unfolding tells
   lines-as-observed h =
-      let s = stationAt bus i in
-      let e : after h .station .address ≡ its .address =
-      ap (λ (t : Turn). t .station .address) (same-turn h) ∙ hears-lasting (ready s) h .address ∙ ready-lasting s .address
-      ∙ ap (λ (w : Who). w .address) (station-by-calls cs bytes i attached) in
-      lines-are (after h .told) (after h .station .address) (after h .station .part)
-      ∙ ap₂ (λ (a : ℕ) (r : Report). lines a r (after h .station .part)) e (tells-as-observed h)
+      subst (λ (t : Turn). tells t ≡ lines (its .address) (report h) (t .station .part)) (sym (same-turn h))
+      (by-its-calls
+      (λ w ts f.
+      tells (turned h (turnAt bus i)) ≡ lines (w .address) (observer.tells (w .address) (w .master) (seen i cs) ts f h) (turned h (turnAt bus i) .station .part))
+      (seat-lines bus (by-calls cs bytes) i attached (seen i cs) (followed i cs bytes .observed attached) h))
 
   -- the telegram held longest leaves its queue exactly where free is told
   pub left-as-observed : (h : Sound) → waiting (after h .station .outbox) ≡ leftBy (report h) (heldBy i cs)

@@ -44,7 +44,7 @@ did-quiet (attached _ _ _ _) = refl
 did-quiet (queued _ _ _) = refl
 did-quiet (replied _ _ _) = refl
 
-call-counts : (b : Bus) (hs : List Sound) → b .quiet ≡ quietRun hs % 10 → (c : Call) → afterCall b c .quiet ≡ quietRun (soundsCall b hs c) % 10
+pub call-counts : (b : Bus) (hs : List Sound) → b .quiet ≡ quietRun hs % 10 → (c : Call) → afterCall b c .quiet ≡ quietRun (soundsCall b hs c) % 10
 unfolding slotRun slotHeard
 call-counts b hs e (attach a m) = did-quiet (did-attach b a m) ∙ e
 call-counts b hs e (queue qq zz pb sb bytes) = did-quiet (did-queue b qq zz pb sb bytes) ∙ e
@@ -68,15 +68,17 @@ says-nine q l = by (ltb q 9) refl
 below-ten : (r : ℕ) → r % 10 < 10
 below-ten r = omega arith
 
-none : poweredOn .quiet ≡ 0
+pub none : poweredOn .quiet ≡ 0
 unfolding poweredOn
 none = refl
 
+pub counted-says : (b : Bus) (hs : List Sound) → b .quiet ≡ quietRun hs % 10 → generatorSays (b .quiet) ≡ generates hs
+unfolding generates
+counted-says b hs e = ap generatorSays e ∙ says-nine (quietRun hs % 10) (below-ten (quietRun hs))
+
 -- what the generator says in the next slot
 pub generator-as-observed : (cs : List Call) → generatorSays (afterCalls poweredOn cs .quiet) ≡ generates (sounds cs)
-unfolding generates
-generator-as-observed cs =
-    ap generatorSays (calls-count poweredOn [] cs none) ∙ says-nine (quietRun (sounds cs) % 10) (below-ten (quietRun (sounds cs)))
+generator-as-observed cs = counted-says (afterCalls poweredOn cs) (sounds cs) (calls-count poweredOn [] cs none)
 
 -- ---- silent stations
 

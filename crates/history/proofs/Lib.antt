@@ -1,4 +1,6 @@
 pub mod Access
+pub mod Agreed
+pub mod Anded
 pub mod AsObserved
 pub mod AtLeastTwelve
 pub mod ElevenTooFew
@@ -9,6 +11,7 @@ pub mod Headed
 pub mod HeldByCalls
 pub mod Matches
 pub mod Observed
+pub mod Runs
 pub mod SaysWhen
 pub mod Sentences
 pub mod Shares

@@ -9,3 +9,5 @@ pub mod Reasons
 pub mod Held
 pub mod Generator
 pub mod Seen
+pub mod Word
+pub mod Agrees

@@ -1,5 +1,8 @@
 -- Computed runs that meet the hypotheses of the theorems.
+pub mod FailedRuns
+pub mod FirstSlotWin
 pub mod FormWitnesses
+pub mod RefusedRuns
 pub mod Runs
 pub mod TakenWitnesses
 pub mod TwelfthRun

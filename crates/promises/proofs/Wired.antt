@@ -15,10 +15,10 @@ least a b = omega arith
 least-assoc : (x y z : ℕ) → min (min x y) z ≡ min x (min y z)
 least-assoc x y z = omega arith
 
-and-half : (a b : ℕ) → bitAnd a b / 2 ≡ bitAnd (a / 2) (b / 2)
+pub and-half : (a b : ℕ) → bitAnd a b / 2 ≡ bitAnd (a / 2) (b / 2)
 and-half a b = ap (λ (x : ℕ). x / 2) (and-step a b) ∙ digits-div (bitAnd (a / 2) (b / 2)) (least a b)
 
-and-odd : (a b : ℕ) → bitAnd a b % 2 ≡ min (a % 2) (b % 2)
+pub and-odd : (a b : ℕ) → bitAnd a b % 2 ≡ min (a % 2) (b % 2)
 and-odd a b = ap (λ (x : ℕ). x % 2) (and-step a b) ∙ digits-mod (bitAnd (a / 2) (b / 2)) (least a b)
 
 pub and-assoc : (a b c : ℕ) → bitAnd (bitAnd a b) c ≡ bitAnd a (bitAnd b c)

@@ -1,7 +1,7 @@
 -- Runs that meet what the theorems ask for, computed: none of them speaks of nothing. Assumes nothing.
 use mathlib.Core.Path.{_≡_, refl}
 use mathlib.Core.Bool.{Bool, true, false}
-use mathlib.Core.List.{List, [], _∷_, _++_, map, List·Permᴰ as Permutation, List·Permᴰ·swap}
+use mathlib.Core.List.{List, [], _∷_, _++_, List·Permᴰ as Permutation, List·Permᴰ·swap}
 use Prim.Native.Nat.{ℕ}
 use native.Mathlib.Omega.{arith}
 use Rattle.station.specs.Phase.{owner}
@@ -9,20 +9,13 @@ use Rattle.station.specs.Addressed.{forAll}
 use Rattle.station.specs.declared.phase.Sound.the-variants.{Quiet, Symbol}
 use Rattle.station.specs.declared.phase.Told.{Told}
 use Rattle.station.specs.declared.phase.Told.the-variants.{Given, Answered}
-use Rattle.bus.specs.declared.refusal.Refusal.the-variants.{InUse}
-use Rattle.bus.specs.declared.refusal.Verdict.the-variants.{Refused}
 use Rattle.bus.specs.Bus.{poweredOn, attachedTo, turnAt}
 use Rattle.promises.specs.Calls.{Call, attach, queue, reply, slot, heard, afterCalls, Reachable}
 use Rattle.promises.specs.Fit.{stationAt}
 use Rattle.promises.specs.Heard.{heardSince}
 use Rattle.promises.specs.Orders.{seatsOf}
-use Rattle.promises.specs.Slots.{verdictOn}
-use Rattle.promises.proofs.Computed.Runs.{run}
+use Rattle.promises.proofs.Computed.Runs.{symbols, run}
 use Rattle.promises.proofs.Shared.Uses.{by-calls}
-
--- slots that all hear as these symbols
-abbrev symbols : List ℕ → List Call
-symbols xs = map (λ (b : ℕ). heard (Symbol b)) xs
 
 -- master 10 and slave 08; 10 sends 50 02 to 08, which answers 64
 abbrev pub begun : List Call
@@ -51,10 +44,6 @@ other-order = List·Permᴰ·swap refl refl
 pub ten-owns : owner (stationAt (afterCalls poweredOn owning) 0 .phase) ≡ true
 unfolding run
 ten-owns = refl
-
-pub four-in-use : verdictOn (afterCalls poweredOn (attach 0xFF true ∷ [])) (attach 0x04 false) ≡ Refused InUse
-unfolding run
-four-in-use = refl
 
 -- a slot for each symbol of 10 08 50 02 00 38, and one for the 00
 abbrev pub given : List Call
