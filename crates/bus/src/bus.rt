@@ -1,5 +1,7 @@
 // The bus as a value, and what a call gives back.
 ghost use mathlib.Core.Path.{_≡_};
+ghost use Prim.Native.Nat.{ℕ};
+ghost use Rattle.bus.specs.declared.bus.Bus.{Bus};
 ghost use Rattle.bus.specs.Bus.{unseated, poweredOn, attachedTo, turnAt, withTurn, refusedBy, done};
 use crate::refusal::Refusal;
 use crate::refusal::Verdict;
@@ -21,6 +23,12 @@ pub struct Bus {
 // The bus after a call; a refused call leaves it as it was.
 pub struct Answer {
     pub bus: Bus,
+    pub verdict: Verdict,
+}
+
+// What a call makes of the one seat that it is about; a refused call leaves it as it was.
+pub struct Held {
+    pub turn: Turn,
     pub verdict: Verdict,
 }
 
@@ -92,6 +100,20 @@ impl Bus {
         Answer {
             bus: self,
             verdict: Verdict::Done,
+        }
+    }
+}
+
+impl Held {
+    // Put back into the seat that it was taken from, the turn changes nothing.
+    pub(crate) fn refused(t: Turn, refusal: Refusal) -> Held
+        ensures { λ r.
+            ⌜ ((b : Bus) (i : ℕ) → turnAt b i ≡ t
+            → refusedBy b refusal ≡ record { bus = withTurn b i (r .turn); verdict = r .verdict }) ⌝ }
+    {
+        Held {
+            turn: t,
+            verdict: Verdict::Refused(refusal),
         }
     }
 }

@@ -1,13 +1,19 @@
 // A telegram is queued at its source: 1, 2, 3, 4, 6, 5 in that order.
 ghost use mathlib.Core.Path.{_≡_};
-ghost use Rattle.bus.specs.Queue.{unusable, noTarget, noCommand, holds, queuesTelegram, queuesFrom, queues};
+ghost use Prim.Native.Nat.{ℕ};
+ghost use Rattle.bus.specs.declared.bus.Bus.{Bus};
+ghost use Rattle.bus.specs.Bus.{turnAt, withTurn};
+ghost use Rattle.bus.specs.Queue.{unusable, noTarget, noCommand, queuesTelegram, queuesFrom, queues};
 use crate::bus::Answer;
 use crate::bus::Bus;
+use crate::bus::Held;
 use crate::find::Query;
 use crate::refusal::Refusal;
+use crate::refusal::Verdict;
 use address::Role;
 use laws::Found;
 use station::station::Station;
+use station::station::Turn;
 use wire::form::Wire;
 use wire::part::Load;
 use wire::part::Telegram;
@@ -41,62 +47,80 @@ fn no_target(source: Station, zz: u8) -> bool
 }
 
 impl Bus {
-    pub fn queue(self, qq: u8, zz: u8, pb: u8, sb: u8, bytes: &[u8]) -> Answer
+    // The source's seat is worked on by itself and put back once: the bus is large.
+    pub fn queue(mut self, qq: u8, zz: u8, pb: u8, sb: u8, bytes: &[u8]) -> Answer
         ensures { λ r. ⌜ r ≡ queues self qq zz pb sb (now (bytes .entry)) ⌝ }
     {
+        let mut verdict = Verdict::Refused(Refusal::NoMaster);
         match self.first(Query::Master(qq)) {
-            Found::At(i) => self.queue_from(i, zz, pb, sb, bytes),
-            Found::Missing => self.refused(Refusal::NoMaster),
+            Found::At(i) => {
+                if i < Bus::STATIONS {
+                    let t = self.turns[i];
+                    let h = held(t, zz, pb, sb, bytes);
+                    let turn = h.turn;
+                    self.turns[i] = turn;
+                    verdict = h.verdict;
+                }
+            }
+            Found::Missing => {}
+        }
+        Answer {
+            bus: self,
+            verdict: verdict,
         }
     }
+}
 
-    fn queue_from(self, i: usize, zz: u8, pb: u8, sb: u8, bytes: &[u8]) -> Answer
-        ensures { λ r. ⌜ r ≡ queuesFrom self i zz pb sb (now (bytes .entry)) ⌝ }
-    {
-        let t = self.turn(i);
-        let source = t.station;
-        if no_target(source, zz) {
-            return self.refused(Refusal::NoTarget);
-        }
-        if no_command(pb, sb) {
-            return self.refused(Refusal::NoCommand);
-        }
-        if Load::MOST < bytes.len() {
-            return self.refused(Refusal::TooMuchData);
-        }
-        let telegram = Telegram {
-            qq: source.address,
-            zz: zz,
-            pb: pb,
-            sb: sb,
-            load: Load::of(bytes),
+// 2, 3, 4, then 6 and 5: the same in whichever seat of whichever bus the turn stands.
+fn held(t: Turn, zz: u8, pb: u8, sb: u8, bytes: &[u8]) -> Held
+    ensures { λ r.
+        ⌜ ((b : Bus) (i : ℕ) → turnAt b i ≡ t
+        → queuesFrom b i zz pb sb (now (bytes .entry)) ≡ record { bus = withTurn b i (r .turn); verdict = r .verdict }) ⌝ }
+{
+    let source = t.station;
+    if no_target(source, zz) {
+        return Held::refused(t, Refusal::NoTarget);
+    }
+    if no_command(pb, sb) {
+        return Held::refused(t, Refusal::NoCommand);
+    }
+    if Load::MOST < bytes.len() {
+        return Held::refused(t, Refusal::TooMuchData);
+    }
+    let telegram = Telegram {
+        qq: source.address,
+        zz: zz,
+        pb: pb,
+        sb: sb,
+        load: Load::of(bytes),
+    };
+    accepts(t, telegram)
+}
+
+// 6, then 5.
+fn accepts(t: Turn, telegram: Telegram) -> Held
+    ensures { λ r.
+        ⌜ ((b : Bus) (i : ℕ) → turnAt b i ≡ t
+        → queuesTelegram b i telegram ≡ record { bus = withTurn b i (r .turn); verdict = r .verdict }) ⌝ }
+{
+    let w = wire::form::telegram_form(telegram);
+    if Wire::ROOM < w.len {
+        return Held::refused(t, Refusal::TooManySymbols);
+    }
+    let mut source = t.station;
+    let told = t.told;
+    let outbox = source.outbox;
+    let a = outbox.accept(telegram);
+    if a.taken {
+        let fuller = a.outbox;
+        source.outbox = fuller;
+        return Held {
+            turn: Turn {
+                station: source,
+                told: told,
+            },
+            verdict: Verdict::Done,
         };
-        self.queue_telegram(i, telegram)
     }
-
-    fn queue_telegram(self, i: usize, telegram: Telegram) -> Answer
-        ensures { λ r. ⌜ r ≡ queuesTelegram self i telegram ⌝ }
-    {
-        let w = wire::form::telegram_form(telegram);
-        if Wire::ROOM < w.len {
-            return self.refused(Refusal::TooManySymbols);
-        }
-        self.hold(i, telegram)
-    }
-
-    fn hold(self, i: usize, telegram: Telegram) -> Answer
-        ensures { λ r. ⌜ r ≡ holds self i telegram ⌝ }
-    {
-        let mut t = self.turn(i);
-        let mut source = t.station;
-        let outbox = source.outbox;
-        let a = outbox.accept(telegram);
-        if a.taken {
-            let fuller = a.outbox;
-            source.outbox = fuller;
-            t.station = source;
-            return self.with_turn(i, t).done();
-        }
-        self.refused(Refusal::OutboxFull)
-    }
+    Held::refused(t, Refusal::OutboxFull)
 }

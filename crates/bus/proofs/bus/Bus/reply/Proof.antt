@@ -1,5 +1,14 @@
 -- `bus::bus::Bus::reply` meets its contract. Assumes nothing.
-use Rattle.bus.specs.Reply.{replies}
+use mathlib.Core.Path.{_≡_, sym, ap, _∙_}
+use native.Mathlib.Omega.{arith}
+use lib.ListN.{length}
+use Rattle.laws.proofs.Lists.{length-mapped, getD-within}
+use Rattle.laws.specs.declared.Found.{Found}
+use Rattle.bus.specs.Bus.{seats, turnAt, withTurn, refusedBy}
+use Rattle.bus.specs.Reply.{repliesAt, replies}
+use Rattle.bus.proofs.Loops.{attached-fit}
+use Rattle.bus.proofs.RefusedQueue.{found-attached}
+use denote.Ref.{now}
 use borrow.Author.Needs.{needs}
 use Rattle.bus.proofs.bus.Bus.reply.Statement.{statement}
 use Rattle.bus.proofs.bus.Bus.reply.Tie as tie
@@ -10,31 +19,54 @@ first-requires c κs = search needs
 enum-known-i : tie.Need-enum-known-i
 enum-known-i c = search needs
 
-reply-at-requires : tie.Need-reply-at-requires
-reply-at-requires c κs = search needs
+mul-t : tie.Need-mul-t
+mul-t c = search needs
+
+element-copy-out-t : tie.Need-element-copy-out-t
+element-copy-out-t c = search needs
+
+kept-requires : tie.Need-kept-requires
+kept-requires c κs = search needs
+
+mul-turn : tie.Need-mul-turn
+mul-turn c = search needs
+
+element-set-from-turn : tie.Need-element-set-from-turn
+element-set-from-turn c = search needs
 
 enum-told : tie.Need-enum-told
 enum-told c = search needs
 
-refused-requires : tie.Need-refused-requires
-refused-requires c κs = search needs
+-- the bus has all its seats
+full : (c : tie.Start) → length (c .args .t1 .turns) ≡ seats
+full c = search (needs, length-mapped)
 
+-- the turn goes back into the seat that it came from
 returns : tie.Need-returns
-unfolding replies
+unfolding replies turnAt withTurn
 returns c =
-    simp (
-      c .reply-at .ensures,
-      c .before .before .i .given .1,
-      ← c .before .before .before .before .first .ensures,
-    )
+    let h = c .before in
+    let m = h .before .before .before .before in
+    let f = m .before .before in
+    let g = f .before .before .args in
+    sym
+    (ap (λ (x : Found). repliesAt x (g .t1) (g .pb) (g .sb) (now (g .bytes))) (sym (f .first .ensures) ∙ m .i .given .1)
+    ∙ h .kept .ensures (g .t1) _ (sym (getD-within (g .t1 .turns) _ _ _ (omega (arith, full (f .before .before))))))
 
+-- what the search found is a seat
 returns-2 : tie.Need-returns-2
-unfolding replies
 returns-2 c =
+    let m = c .before .before in
+    let f = m .before .before in
+    let b = f .before .before .args .t1 in
+    absurd (omega (arith, attached-fit b, found-attached _ b _ (sym (f .first .ensures) ∙ m .i .given .1)))
+
+returns-3 : tie.Need-returns-3
+unfolding replies refusedBy
+returns-3 c =
     simp (
-      c .refused .ensures,
-      c .before .enum-told .given .1,
-      ← c .before .before .before .first .ensures,
+      c .enum-told .given .1,
+      ← c .before .before .first .ensures,
     )
 
 pub reply-spec : {M : Type 1} → statement M
@@ -43,8 +75,12 @@ reply-spec =
     (tie.spec
     first-requires
     enum-known-i
-    reply-at-requires
+    mul-t
+    element-copy-out-t
+    kept-requires
+    mul-turn
+    element-set-from-turn
     enum-told
-    refused-requires
     returns
-    returns-2)
+    returns-2
+    returns-3)

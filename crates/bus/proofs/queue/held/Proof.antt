@@ -1,12 +1,9 @@
--- `bus::bus::Bus::queue_from` meets its contract. Assumes nothing.
+-- `bus::queue::held` meets its contract. Assumes nothing.
 use borrow.Author.Tests.{lt-ltb, le-ltb}
 use Rattle.bus.specs.Queue.{queuesFrom}
 use borrow.Author.Needs.{needs}
-use Rattle.bus.proofs.bus.Bus.queue_from.Statement.{statement}
-use Rattle.bus.proofs.bus.Bus.queue_from.Tie as tie
-
-turn-requires : tie.Need-turn-requires
-turn-requires c κs = search needs
+use Rattle.bus.proofs.queue.held.Statement.{statement}
+use Rattle.bus.proofs.queue.held.Tie as tie
 
 no-target-requires : tie.Need-no-target-requires
 no-target-requires c κs = search needs
@@ -26,63 +23,62 @@ refused-requires-3 c κs = search needs
 of-requires : tie.Need-of-requires
 of-requires c κs = search needs
 
-queue-telegram-requires : tie.Need-queue-telegram-requires
-queue-telegram-requires c κs = search needs
+accepts-requires : tie.Need-accepts-requires
+accepts-requires c κs = search needs
 
 returns : tie.Need-returns
 unfolding queuesFrom
 returns c =
-    simp (
-      c .refused .ensures,
+    λ b i e. simp (
+      c .refused .ensures b i e,
+      e,
       c .before .if1 .taken,
       ← c .before .before .no-target .ensures,
-      ← c .before .before .before .before .turn .ensures,
     )
 
 returns-2 : tie.Need-returns-2
 unfolding queuesFrom
 returns-2 c =
-    simp (
-      c .refused2 .ensures,
+    λ b i e. simp (
+      c .refused2 .ensures b i e,
+      e,
       c .before .if2 .taken,
       ← c .before .before .no-command .ensures,
       c .before .before .before .if1 .left,
       ← c .before .before .before .before .no-target .ensures,
-      ← c .before .before .before .before .before .before .turn .ensures,
     )
 
 returns-3 : tie.Need-returns-3
 unfolding queuesFrom
 returns-3 c =
-    simp (
-      c .refused3 .ensures,
+    λ b i e. simp (
+      c .refused3 .ensures b i e,
+      e,
       lt-ltb _ _ (c .before .if3 .taken),
       c .before .before .if2 .left,
       ← c .before .before .before .no-command .ensures,
       c .before .before .before .before .if1 .left,
       ← c .before .before .before .before .before .no-target .ensures,
-      ← c .before .before .before .before .before .before .before .turn .ensures,
     )
 
 returns-4 : tie.Need-returns-4
 unfolding queuesFrom
 returns-4 c =
-    simp (
-      c .queue-telegram .ensures,
+    λ b i e. simp (
+      ← c .accepts .ensures b i e,
+      e,
       c .before .of .ensures,
       le-ltb _ _ (c .before .before .if3 .left),
       c .before .before .before .if2 .left,
       ← c .before .before .before .before .no-command .ensures,
       c .before .before .before .before .before .if1 .left,
       ← c .before .before .before .before .before .before .no-target .ensures,
-      ← c .before .before .before .before .before .before .before .before .turn .ensures,
     )
 
-pub queue-from-spec : {M : Type 1} → statement M
-queue-from-spec =
+pub held-spec : {M : Type 1} → statement M
+held-spec =
     tie.close
     (tie.spec
-    turn-requires
     no-target-requires
     refused-requires
     returns
@@ -92,5 +88,5 @@ queue-from-spec =
     refused-requires-3
     returns-3
     of-requires
-    queue-telegram-requires
+    accepts-requires
     returns-4)
