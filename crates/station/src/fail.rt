@@ -1,9 +1,13 @@
 // How an owner leaves the wire, and who is told failed (01, "Acknowledgement", "Release").
 ghost use mathlib.Core.Path.{_≡_};
+ghost use Rattle.station.specs.declared.phase.Phase.the-variants.{Releasing};
+ghost use Rattle.station.specs.declared.phase.Told.the-variants.{Failed};
 ghost use Rattle.station.specs.Table.{left, released, ownerFails, senderFails, readerFails};
+ghost use Rattle.station.specs.Turn.{goes};
 use crate::phase::Failure;
 use crate::phase::Phase;
 use crate::phase::Told;
+use crate::read::Next;
 use crate::station::Station;
 use crate::station::Turn;
 use wire::part::Part;
@@ -40,14 +44,24 @@ impl Station {
                 station: self.leave(),
                 told: Told::FailedFree(Failure::Disturbed),
             },
-            Failure::WrongAck => self.go(Phase::Releasing, Told::Failed(Failure::WrongAck)),
-            Failure::TwiceNak => self.go(Phase::Releasing, Told::Failed(Failure::TwiceNak)),
+            Failure::WrongAck => self.then_syn(Failure::WrongAck),
+            Failure::TwiceNak => self.then_syn(Failure::TwiceNak),
             Failure::SynHeard => Turn {
                 station: self.leave(),
                 told: Told::FailedFree(Failure::SynHeard),
             },
-            Failure::PairBroken => self.go(Phase::Releasing, Told::Failed(Failure::PairBroken)),
+            Failure::PairBroken => self.then_syn(Failure::PairBroken),
         }
+    }
+
+    // Told now, SYN in the next slot.
+    fn then_syn(self, failure: Failure) -> Turn
+        ensures { λ r. ⌜ r ≡ goes self Releasing (Failed failure) ⌝ }
+    {
+        let next = Next::then_syn(failure);
+        let phase = next.phase;
+        let told = next.told;
+        self.go(phase, told)
     }
 
     // The sender of a master part is the owner, of an answer a slave.

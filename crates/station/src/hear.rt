@@ -164,11 +164,11 @@ impl Station {
         let outcome = step.outcome;
         let next = match outcome {
             Outcome::More => Next::read_on(step.cursor, part, attempt, own, read.zz),
-            Outcome::Cut => return self.lost(read, part, Failure::PairBroken),
-            Outcome::NoMaster => return self.lost(read, part, Failure::PairBroken),
-            Outcome::Unusable => return self.lost(read, part, Failure::PairBroken),
+            Outcome::Cut => Next::lost(part),
+            Outcome::NoMaster => Next::lost(part),
+            Outcome::Unusable => Next::lost(part),
             Outcome::TooLong => Next::whole(part, attempt, false, read.zz),
-            Outcome::BrokenPair => return self.lost(read, part, Failure::PairBroken),
+            Outcome::BrokenPair => Next::lost(part),
             Outcome::Whole(matched) => Next::whole(part, attempt, matched, read.zz),
         };
         let since = self.since;

@@ -1,20 +1,20 @@
 // The reader of a part: the owner reads an answer, any other station a master part (01, "Reading", "Broadcast").
 // What a symbol makes of its reader is worked out in small values: a whole station would be copied at every step.
 ghost use mathlib.Core.Path.{_≡_};
+ghost use Rattle.station.specs.declared.phase.Failure.the-variants.{PairBroken};
+ghost use Rattle.station.specs.declared.phase.Phase.the-variants.{Releasing};
+ghost use Rattle.station.specs.declared.phase.Told.the-variants.{Failed};
 ghost use Rattle.station.specs.declared.station.Station.{Station};
 ghost use Rattle.station.specs.Addressed.{forAll, answered, isOwn};
-ghost use Rattle.station.specs.Admission.{noted};
 ghost use Rattle.station.specs.Table.{readerFails, whole, addressed, readOn};
-ghost use Rattle.station.specs.Turn.{withPart, goes};
+ghost use Rattle.station.specs.Turn.{goes};
 use crate::phase::Attempt;
 use crate::phase::Failure;
 use crate::phase::Phase;
 use crate::phase::Told;
 use crate::station::Station;
-use crate::station::Turn;
 use address::Role;
 use wire::part::Part;
-use wire::part::Telegram;
 use wire::reader::Cursor;
 use wire::reader::Place;
 
@@ -59,14 +59,6 @@ impl Station {
         } else {
             false
         }
-    }
-
-    // The reading comes to nothing with this symbol; that is seldom, so here the station may be copied.
-    pub(crate) fn lost(mut self, read: Telegram, part: Part, failure: Failure) -> Turn
-        ensures { λ r. ⌜ r ≡ readerFails part failure (withPart (noted self) read) ⌝ }
-    {
-        self.part = read;
-        self.noted().fail_reader(part, failure)
     }
 }
 
@@ -141,6 +133,29 @@ impl Next {
                 judging
             }
             Part::AnswerPart => judging,
+        }
+    }
+
+    // The reading comes to nothing with this symbol: the owner is told failed 5, any other station nothing.
+    pub(crate) fn lost(part: Part) -> Next
+        ensures { λ r. ⌜ ((s : Station) → goes s (r .phase) (r .told) ≡ readerFails part PairBroken s) ⌝ }
+    {
+        match part {
+            Part::MasterPart => Next {
+                phase: Phase::Silent,
+                told: Told::Silence,
+            },
+            Part::AnswerPart => Next::then_syn(Failure::PairBroken),
+        }
+    }
+
+    // An owner is told failed, and sends SYN in the next slot.
+    pub(crate) fn then_syn(failure: Failure) -> Next
+        ensures { λ r. ⌜ ((s : Station) → goes s (r .phase) (r .told) ≡ goes s Releasing (Failed failure)) ⌝ }
+    {
+        Next {
+            phase: Phase::Releasing,
+            told: Told::Failed(failure),
         }
     }
 }

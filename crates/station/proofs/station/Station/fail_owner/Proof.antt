@@ -13,14 +13,14 @@ leave-requires c κs = search needs
 enum-told-2 : tie.Need-enum-told-2
 enum-told-2 c = search needs
 
-go-requires : tie.Need-go-requires
-go-requires c κs = search needs
+then-syn-requires : tie.Need-then-syn-requires
+then-syn-requires c κs = search needs
 
 enum-told-3 : tie.Need-enum-told-3
 enum-told-3 c = search needs
 
-go-requires-2 : tie.Need-go-requires-2
-go-requires-2 c κs = search needs
+then-syn-requires-2 : tie.Need-then-syn-requires-2
+then-syn-requires-2 c κs = search needs
 
 enum-told-4 : tie.Need-enum-told-4
 enum-told-4 c = search needs
@@ -31,8 +31,8 @@ leave-requires-2 c κs = search needs
 enum-told-5 : tie.Need-enum-told-5
 enum-told-5 c = search needs
 
-go-requires-3 : tie.Need-go-requires-3
-go-requires-3 c κs = search needs
+then-syn-requires-3 : tie.Need-then-syn-requires-3
+then-syn-requires-3 c κs = search needs
 
 returns : tie.Need-returns
 unfolding ownerFails
@@ -46,7 +46,7 @@ returns-2 : tie.Need-returns-2
 unfolding ownerFails
 returns-2 c =
     simp (
-      c .go .ensures,
+      c .then-syn .ensures,
       c .before .enum-told2 .given .1,
     )
 
@@ -54,7 +54,7 @@ returns-3 : tie.Need-returns-3
 unfolding ownerFails
 returns-3 c =
     simp (
-      c .go2 .ensures,
+      c .then-syn2 .ensures,
       c .before .enum-told3 .given .1,
     )
 
@@ -70,7 +70,7 @@ returns-5 : tie.Need-returns-5
 unfolding ownerFails
 returns-5 c =
     simp (
-      c .go3 .ensures,
+      c .then-syn3 .ensures,
       c .before .enum-told5 .given .1,
     )
 
@@ -81,13 +81,13 @@ fail-owner-spec =
     enum-told
     leave-requires
     enum-told-2
-    go-requires
+    then-syn-requires
     enum-told-3
-    go-requires-2
+    then-syn-requires-2
     enum-told-4
     leave-requires-2
     enum-told-5
-    go-requires-3
+    then-syn-requires-3
     returns
     returns-2
     returns-3

@@ -130,40 +130,6 @@ judged c =
     (λ (if1, e). rest-reads _ _ _ _ _ _ _ b (if1 .left) e)
     (c .if1 .came)
 
--- what a step's outcome makes of the station that reads is what the reader says
-through : (s : Station) (symbol : ℕ) (cur : Cursor) (p : Part) (a : Attempt) (t : Step) (o : Outcome) (r : Turn)
-    → t ≡ readOne cur (s .part) symbol → t .outcome ≡ o → r ≡ readsAs o (withPart (noted s) (t .part)) (t .cursor) p a
-    → r ≡ reads (noted s) symbol cur p a
-unfolding noted reads
-through s symbol cur p a t o r e f g =
-    g
-    ∙ ap (λ (q : Outcome). readsAs q (withPart (noted s) (t .part)) (t .cursor) p a) (sym f)
-    ∙ ap (λ (u : Step). readsStep u (noted s) p a) e
-
-returns-2 : tie.Need-returns-2
-returns-2 c =
-    let r = c .before .before .before .before .before in
-    let j = r .before .before in
-    through (j .if1 .self) _ _ _ _ _ _ _ (r .read .ensures) (c .before .enum-told2 .given .1) (c .lost .ensures) ∙ judged j
-
-returns-3 : tie.Need-returns-3
-returns-3 c =
-    let r = c .before .before .before .before .before in
-    let j = r .before .before in
-    through (j .if1 .self) _ _ _ _ _ _ _ (r .read .ensures) (c .before .enum-told3 .given .1) (c .lost2 .ensures) ∙ judged j
-
-returns-4 : tie.Need-returns-4
-returns-4 c =
-    let r = c .before .before .before .before .before in
-    let j = r .before .before in
-    through (j .if1 .self) _ _ _ _ _ _ _ (r .read .ensures) (c .before .enum-told4 .given .1) (c .lost3 .ensures) ∙ judged j
-
-returns-5 : tie.Need-returns-5
-returns-5 c =
-    let r = c .before .before .before .before .before in
-    let j = r .before .before in
-    through (j .if1 .self) _ _ _ _ _ _ _ (r .read .ensures) (c .before .enum-told6 .given .1) (c .lost4 .ensures) ∙ judged j
-
 -- the phase and what is told are what the outcome makes of every station that has read this ZZ, its own or not
 abbrev GoesOn : Step → Bool → Next → Part → Attempt → Type 0
 GoesOn t own n p a =
@@ -184,8 +150,16 @@ goes-on c u z o =
     ⊎-elim
     (λ (match, told, read-on, e). goes-as u _ _ _ _ _ _ _ (told .given .1) e (read-on .ensures u z o))
     (⊎-elim
+    (λ (match, told, lost, e). goes-as u _ _ _ _ _ _ _ (told .given .1) e (lost .ensures u))
+    (⊎-elim
+    (λ (match, told, lost, e). goes-as u _ _ _ _ _ _ _ (told .given .1) e (lost .ensures u))
+    (⊎-elim
+    (λ (match, told, lost, e). goes-as u _ _ _ _ _ _ _ (told .given .1) e (lost .ensures u))
+    (⊎-elim
     (λ (match, told, whole, e). goes-as u _ _ _ _ _ _ _ (told .given .1) e (whole .ensures u z))
-    (λ (match, outcome, known, whole, e). goes-as u _ _ _ _ _ _ _ (outcome .given .1) e (whole .ensures u z)))
+    (⊎-elim
+    (λ (match, told, lost, e). goes-as u _ _ _ _ _ _ _ (told .given .1) e (lost .ensures u))
+    (λ (match, outcome, known, whole, e). goes-as u _ _ _ _ _ _ _ (outcome .given .1) e (whole .ensures u z)))))))
     (c .match .came)
 
 -- the station made once is the station that goes on
@@ -193,14 +167,15 @@ made : (s : Station) (symbol : ℕ) (cur : Cursor) (p : Part) (a : Attempt) (t :
     → t ≡ readOne cur (s .part) symbol → own ≡ isOwn s (t .part .zz)
     → GoesOn t own n p a → since ≡ sinceNext (s .since)
     → goes (withPart (withAccess s false (s .marked) since) (t .part)) (n .phase) (n .told) ≡ reads (noted s) symbol cur p a
-unfolding noted isOwn
+unfolding noted isOwn reads
 made s symbol cur p a t own n since e o next f =
     ap (λ (q : Since). goes (withPart (withAccess s false (s .marked) q) (t .part)) (n .phase) (n .told)) f
-    ∙ through s symbol cur p a t (t .outcome) _ e refl (next (withPart (noted s) (t .part)) refl (sym o))
+    ∙ next (withPart (noted s) (t .part)) refl (sym o)
+    ∙ ap (λ (u : Step). readsStep u (noted s) p a) e
 
-returns-6 : tie.Need-returns-6
+returns-2 : tie.Need-returns-2
 unfolding goes
-returns-6 c =
+returns-2 c =
     let n = c .before .before .before .before in
     let m = n .before in
     let r = m .before .before .before in
@@ -222,19 +197,15 @@ hear-reading-spec =
     read-on-requires
     enum-told-2
     lost-requires
-    returns-2
     enum-told-3
     lost-requires-2
-    returns-3
     enum-told-4
     lost-requires-3
-    returns-4
     enum-told-5
     whole-requires
     enum-told-6
     lost-requires-4
-    returns-5
     enum-known-outcome
     whole-requires-2
     next-requires
-    returns-6)
+    returns-2)
