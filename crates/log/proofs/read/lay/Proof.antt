@@ -1,0 +1,21 @@
+-- `log::read::lay` meets its contract. Assumes nothing.
+use mathlib.Core.Path.{sym}
+use lib.Seq.{set-out}
+use borrow.Author.Needs.{needs}
+use Rattle.log.proofs.read.lay.Statement.{statement}
+use Rattle.log.proofs.read.lay.Tie as tie
+
+slice-write-out : tie.Need-slice-write-out
+slice-write-out c = search needs
+
+same-length : tie.Need-same-length
+same-length c = search needs
+
+returns : tie.Need-returns
+returns c = search needs
+
+returns-2 : tie.Need-returns-2
+returns-2 c = sym (set-out _ _ _ (c .if1 .left))
+
+pub lay-spec : {M : Type 1} → statement M
+lay-spec = tie.close (tie.spec slice-write-out same-length returns returns-2)

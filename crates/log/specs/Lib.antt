@@ -1,0 +1,11 @@
+pub mod Fitting
+pub mod Latest
+pub mod Log
+pub mod Note
+pub mod Read
+pub mod ReadBack
+pub mod Record
+pub mod Ring
+pub mod Roomy
+pub mod Slots
+pub mod Sound

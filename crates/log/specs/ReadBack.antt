@@ -1,0 +1,53 @@
+-- A reader of tagged records, from the request's words alone: it uses nothing of what writes them (02, E1). Assumes nothing.
+use mathlib.Core.Bool.{cond}
+use mathlib.Core.List.{List, [], _∷_, _++_}
+use mathlib.Core.Option.{Option, none, some}
+use Prim.Native.Nat.{ℕ, zero, suc, _+_, _*_}
+use lib.Dec.{eqb}
+use lib.ListN.{length, getD, take, drop}
+use Rattle.station.specs.Events.{Word, owns, taken, failed, free, given, answer}
+
+-- what a record says
+pub record Entry : Type 0 where
+  pub slot : ℕ
+  pub station : ℕ
+  pub word : Word
+  pub values : List ℕ
+
+-- tags: 1 owns, 2 taken, 3 failed, 4 free, 5 given, 6 answer, and no others
+unfoldable pub wordOf : ℕ → Option Word
+wordOf n =
+    cond (eqb n 1) (some owns)
+    (cond (eqb n 2) (some taken)
+    (cond (eqb n 3) (some failed)
+    (cond (eqb n 4) (some free)
+    (cond (eqb n 5) (some given)
+    (cond (eqb n 6) (some answer) none)))))
+
+-- a value: four bytes of slot number, high first, the station, the rest
+unfoldable pub entryIn : Word → List ℕ → Entry
+entryIn w v =
+    record {
+      slot = getD v 0 0 * 16777216 + getD v 1 0 * 65536 + getD v 2 0 * 256 + getD v 3 0;
+      station = getD v 4 0;
+      word = w;
+      values = drop 5 v;
+    }
+
+-- a record of another tag says nothing
+abbrev pub entriesIn : Option Word → List ℕ → List Entry
+entriesIn none v = []
+entriesIn (some w) v = entryIn w v ∷ []
+
+-- tag, two bytes of length, high first, as many bytes of value as they say; then the next; at most k of them
+unfoldable pub readFrom : ℕ → List ℕ → List Entry
+readFrom zero bs = []
+readFrom (suc k) [] = []
+readFrom (suc k) (tag ∷ bs) =
+    let size = getD bs 0 0 * 256 + getD bs 1 0 in
+    let later = readFrom k (drop size (drop 2 bs)) in
+    entriesIn (wordOf tag) (take size (drop 2 bs)) ++ later
+
+-- a record has a byte at least
+abbrev pub readEntries : List ℕ → List Entry
+readEntries bs = readFrom (length bs) bs

@@ -1,0 +1,138 @@
+// One event as one record, written behind the newest once there is room for all of it.
+ghost use mathlib.Core.Path.{_≡_};
+ghost use mathlib.Core.Bool.{true, false};
+ghost use mathlib.Core.List.{[], _∷_};
+ghost use Prim.Native.Nat.{_+_};
+ghost use Rattle.wire.specs.Form.{bytesOf, countOf};
+ghost use Rattle.station.specs.Events.{numberOf};
+ghost use Rattle.log.specs.Record.{slotBytes, headOf, givenValues, answerValues};
+ghost use Rattle.log.specs.Ring.{ring, pushed};
+ghost use Rattle.log.specs.Note.{begun, written, notedAll, passRecords};
+use crate::log::Log;
+use crate::ring;
+use station::phase::Failure;
+use station::phase::Told;
+use station::station::Turn;
+use wire::part::Load;
+use wire::part::Telegram;
+
+// A slot number in four bytes, high first.
+fn slot_number(l: Log, bytes: &mut [u8], slot: u32) -> Log
+    ensures { λ r. ⌜ ring (now (bytes .exit)) r ≡ pushed (ring (now (bytes .entry)) l) (slotBytes slot) ⌝ }
+{
+    let a = ring::put(l, bytes, (slot / 16777216 % 256) as u8);
+    let b = ring::put(a, bytes, (slot / 65536 % 256) as u8);
+    let c = ring::put(b, bytes, (slot / 256 % 256) as u8);
+    ring::put(c, bytes, (slot % 256) as u8)
+}
+
+// Room for a record with `more` values behind the station; its tag, its length, slot number and station.
+fn begin(l: Log, bytes: &mut [u8], tag: u8, more: u8, slot: u32, station: u8) -> Log
+    ensures { λ r. ⌜ ring (now (bytes .exit)) r ≡ begun (ring (now (bytes .entry)) l) tag more slot station ⌝ }
+{
+    let n = (more as u16) + 5;
+    let roomy = ring::room_for(l, bytes, (more as usize) + 8);
+    let a = ring::put(roomy, bytes, tag);
+    let b = ring::put(a, bytes, (n / 256) as u8);
+    let c = ring::put(b, bytes, (n % 256) as u8);
+    let d = slot_number(c, bytes, slot);
+    ring::put(d, bytes, station)
+}
+
+fn failure_number(f: Failure) -> u8
+    ensures { λ r. ⌜ r ≡ numberOf f ⌝ }
+{
+    match f {
+        Failure::Disturbed => 1,
+        Failure::WrongAck => 2,
+        Failure::TwiceNak => 3,
+        Failure::SynHeard => 4,
+        Failure::PairBroken => 5,
+    }
+}
+
+fn failed(l: Log, bytes: &mut [u8], slot: u32, station: u8, f: Failure) -> Log
+    ensures { λ r. ⌜ ring (now (bytes .exit)) r ≡ written (ring (now (bytes .entry)) l) 3 slot station (numberOf f ∷ []) ⌝ }
+{
+    let a = begin(l, bytes, 3, 1, slot, station);
+    ring::put(a, bytes, failure_number(f))
+}
+
+// NN and the data.
+fn load(l: Log, bytes: &mut [u8], load: Load) -> Log
+    ensures { λ r. ⌜ ring (now (bytes .exit)) r ≡ pushed (ring (now (bytes .entry)) l) (countOf load ∷ bytesOf load) ⌝ }
+{
+    let nn = wire::form::count_of(load);
+    let n = nn as usize;
+    let carried = load.bytes;
+    let mut to = ring::put(l, bytes, nn);
+    let mut i: usize = 0;
+    while i < n {
+        to = ring::put(to, bytes, carried[i]);
+        i += 1;
+    }
+    to
+}
+
+// QQ, PB, SB, NN and data.
+fn given(l: Log, bytes: &mut [u8], slot: u32, station: u8, t: Telegram) -> Log
+    ensures { λ r. ⌜ ring (now (bytes .exit)) r ≡ written (ring (now (bytes .entry)) l) 5 slot station (givenValues t) ⌝ }
+{
+    let carried = t.load;
+    let a = begin(l, bytes, 5, 4 + wire::form::count_of(carried), slot, station);
+    let b = ring::put(a, bytes, t.qq);
+    let c = ring::put(b, bytes, t.pb);
+    let d = ring::put(c, bytes, t.sb);
+    load(d, bytes, carried)
+}
+
+// The slave's address, NN and data.
+fn answer(l: Log, bytes: &mut [u8], slot: u32, station: u8, t: Telegram) -> Log
+    ensures { λ r. ⌜ ring (now (bytes .exit)) r ≡ written (ring (now (bytes .entry)) l) 6 slot station (answerValues t) ⌝ }
+{
+    let carried = t.load;
+    let a = begin(l, bytes, 6, 2 + wire::form::count_of(carried), slot, station);
+    let b = ring::put(a, bytes, t.zz);
+    load(b, bytes, carried)
+}
+
+// owns, taken, failed and free of one station.
+pub(crate) fn first_of(l: Log, bytes: &mut [u8], slot: u32, t: Turn) -> Log
+    ensures { λ r. ⌜ ring (now (bytes .exit)) r ≡ notedAll (ring (now (bytes .entry)) l) (passRecords slot false t) ⌝ }
+{
+    let a = t.station.address;
+    let told = t.told;
+    match told {
+        Told::Silence => l,
+        Told::Owns => begin(l, bytes, 1, 0, slot, a),
+        Told::Taken => begin(l, bytes, 2, 0, slot, a),
+        Told::Failed(f) => failed(l, bytes, slot, a, f),
+        Told::Free => begin(l, bytes, 4, 0, slot, a),
+        Told::FailedFree(f) => {
+            let to = failed(l, bytes, slot, a, f);
+            begin(to, bytes, 4, 0, slot, a)
+        }
+        Told::Given => l,
+        Told::Answered => l,
+    }
+}
+
+// given and answer of one station.
+pub(crate) fn last_of(l: Log, bytes: &mut [u8], slot: u32, t: Turn) -> Log
+    ensures { λ r. ⌜ ring (now (bytes .exit)) r ≡ notedAll (ring (now (bytes .entry)) l) (passRecords slot true t) ⌝ }
+{
+    let s = t.station;
+    let a = s.address;
+    let part = s.part;
+    let told = t.told;
+    match told {
+        Told::Silence => l,
+        Told::Owns => l,
+        Told::Taken => l,
+        Told::Failed(_) => l,
+        Told::Free => l,
+        Told::FailedFree(_) => l,
+        Told::Given => given(l, bytes, slot, a, part),
+        Told::Answered => answer(l, bytes, slot, a, part),
+    }
+}
