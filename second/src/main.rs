@@ -35,6 +35,7 @@ const USAGE: &str = "usage:
   second coverage N SEED                       what N scenarios reach
   second lines FILE...                         the lines of scenario files
   second stored DIR                            writes the stored scenarios
+  second stored-logs DIR                       writes the stored logs
   second bench PROGRAM                         times another program";
 
 fn main() -> ExitCode {
@@ -77,6 +78,7 @@ fn dispatch(words: &[&str]) -> Option<io::Result<ExitCode>> {
         }
         ["lines", ref files @ ..] if !files.is_empty() => Some(show_lines(files)),
         ["stored", dir] => Some(stored::store(Path::new(dir)).map(code)),
+        ["stored-logs", dir] => Some(stored::logs::store(Path::new(dir)).map(code)),
         ["bench", program] => Some(timing::time(program).map(code)),
         _ => None,
     }
