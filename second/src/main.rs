@@ -27,16 +27,16 @@ use std::path::Path;
 use std::process::ExitCode;
 
 const USAGE: &str = "usage:
-  second run                                   scenario on standard input
-  second log LENGTH                            the log, scenario on standard input
-  second make SEED                             scenario on standard output
-  second compare N SEED PROGRAM [KEEP_DIR]     against another program
+  second run                                     scenario on standard input
+  second log LENGTH                              the log, scenario on standard input
+  second make SEED                               scenario on standard output
+  second compare N SEED PROGRAM [KEEP_DIR]       against another program
   second compare-logs N SEED PROGRAM [KEEP_DIR]  the logs against another program
-  second coverage N SEED                       what N scenarios reach
-  second lines FILE...                         the lines of scenario files
-  second stored DIR                            writes the stored scenarios
-  second stored-logs DIR                       writes the stored logs
-  second bench PROGRAM                         times another program";
+  second coverage N SEED                         what N scenarios reach
+  second lines FILE...                           the lines of scenario files
+  second stored DIR                              writes the stored scenarios
+  second stored-logs DIR                         writes the stored logs
+  second bench PROGRAM                           times another program";
 
 fn main() -> ExitCode {
     let args: Vec<String> = std::env::args().skip(1).collect();
