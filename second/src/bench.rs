@@ -19,7 +19,7 @@ impl Bench {
     }
 
     pub fn apply(&mut self, op: &Op) {
-        if let Err(number) = self.operate(op) {
+        if let Err(number) = operate(&mut self.bus, op) {
             self.coverage.refusal(number);
             lines::push_refusal(&mut self.out, number);
         }
@@ -30,24 +30,25 @@ impl Bench {
         self.bus.forget_events();
     }
 
-    fn operate(&mut self, op: &Op) -> Result<(), Refusal> {
-        match *op {
-            Op::Master(address) => self.bus.attach_master(address)?,
-            Op::Slave(address) => self.bus.attach_slave(address)?,
-            Op::Reply { address, pb, sb, data } => self.bus.reply(address, pb, sb, data)?,
-            Op::Queue { head, data } => self.bus.queue(head, data)?,
-            Op::Run(count) => self.bus.run(count as u32),
-            Op::Heard(symbol) => self.bus.run_disturbed(Some(symbol)),
-            Op::Quiet => self.bus.run_disturbed(None),
-        }
-        Ok(())
-    }
-
     pub fn finish(mut self) -> (Vec<u8>, Coverage) {
         lines::push_end(&mut self.out, self.bus.slot_number());
         self.coverage.scenario();
         (self.out, self.coverage)
     }
+}
+
+/// Does what a field of the scenario asks for.
+pub fn operate(bus: &mut Bus, op: &Op) -> Result<(), Refusal> {
+    match *op {
+        Op::Master(address) => bus.attach_master(address)?,
+        Op::Slave(address) => bus.attach_slave(address)?,
+        Op::Reply { address, pb, sb, data } => bus.reply(address, pb, sb, data)?,
+        Op::Queue { head, data } => bus.queue(head, data)?,
+        Op::Run(count) => bus.run(count as u32),
+        Op::Heard(symbol) => bus.run_disturbed(Some(symbol)),
+        Op::Quiet => bus.run_disturbed(None),
+    }
+    Ok(())
 }
 
 /// What the bench program prints for a scenario, and what came up in it.

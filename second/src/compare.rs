@@ -2,20 +2,56 @@
 
 use crate::bench;
 use crate::coverage::Coverage;
+use crate::log_coverage::LogCoverage;
 use crate::maker;
+use crate::wirelog;
 use std::io::{self, Write};
 use std::path::{Path, PathBuf};
 use std::process::{Command, ExitStatus, Stdio};
 use std::thread;
 
+fn seeds(count: u64, first: u64) -> impl Iterator<Item = u64> {
+    (0..count).map(move |index| first.wrapping_add(index))
+}
+
 /// The coverage over N scenarios, with no other program.
 pub fn coverage(count: u64, first_seed: u64) -> Coverage {
     let mut total = Coverage::default();
-    for index in 0..count {
-        let (_, seen) = bench::run(&maker::make(first_seed.wrapping_add(index)));
-        total.add(&seen);
+    for seed in seeds(count, first_seed) {
+        total.add(&bench::run(&maker::make(seed)).1);
     }
     total
+}
+
+/// The same for logs.
+pub fn log_coverage(count: u64, first_seed: u64) -> LogCoverage {
+    let mut total = LogCoverage::default();
+    for seed in seeds(count, first_seed) {
+        log_trial(seed, &mut total);
+    }
+    total
+}
+
+/// What the other program is given, and our lines for it.
+struct Trial {
+    scenario: Vec<u8>,
+    args: Vec<String>,
+    ours: Vec<u8>,
+}
+
+fn bench_trial(seed: u64, total: &mut Coverage) -> Trial {
+    let scenario = maker::make(seed);
+    let (ours, seen) = bench::run(&scenario);
+    total.add(&seen);
+    Trial { scenario, args: Vec::new(), ours }
+}
+
+fn log_trial(seed: u64, total: &mut LogCoverage) -> Trial {
+    let (scenario, text) = maker::make_log(seed);
+    let length = wirelog::length(&text).expect("a length of digits");
+    let (ours, seen) = wirelog::run(length, &scenario);
+    total.add(&seen);
+    Trial { scenario, args: vec![text], ours }
 }
 
 /// Where the other program first went another way.
@@ -25,26 +61,41 @@ struct Difference {
     theirs: String,
 }
 
-/// Stops at the first difference; true if there was none.
+/// The bench lines; true if there was no difference.
 pub fn compare(count: u64, first_seed: u64, program: &str, keep: &Path) -> io::Result<bool> {
     let mut total = Coverage::default();
-    let mut agreed = true;
-    for index in 0..count {
-        let seed = first_seed.wrapping_add(index);
-        let scenario = maker::make(seed);
-        let (ours, seen) = bench::run(&scenario);
-        total.add(&seen);
-        let (theirs, status) = feed(&mut Command::new(program), &scenario)?;
-        let difference = first_difference(&ours, &theirs, status);
-        if let Some(difference) = difference {
-            let file = keep_scenario(keep, seed, &scenario)?;
-            report(seed, &file, &difference);
-            agreed = false;
-            break;
-        }
-    }
+    let trial = |seed| bench_trial(seed, &mut total);
+    let agreed = all_agree(seeds(count, first_seed), trial, program, keep)?;
     println!("{total}");
     Ok(agreed)
+}
+
+/// The logs; true if there was no difference.
+pub fn compare_logs(count: u64, first_seed: u64, program: &str, keep: &Path) -> io::Result<bool> {
+    let mut total = LogCoverage::default();
+    let trial = |seed| log_trial(seed, &mut total);
+    let agreed = all_agree(seeds(count, first_seed), trial, program, keep)?;
+    println!("{total}");
+    Ok(agreed)
+}
+
+/// Stops at the first difference.
+fn all_agree(
+    seeds: impl Iterator<Item = u64>,
+    mut trial: impl FnMut(u64) -> Trial,
+    program: &str,
+    keep: &Path,
+) -> io::Result<bool> {
+    for seed in seeds {
+        let Trial { scenario, args, ours } = trial(seed);
+        let (theirs, status) = feed(Command::new(program).args(&args), &scenario)?;
+        if let Some(difference) = first_difference(&ours, &theirs, status) {
+            let file = keep_scenario(keep, seed, &scenario)?;
+            report(seed, &args, &file, &difference);
+            return Ok(false);
+        }
+    }
+    Ok(true)
 }
 
 /// The scenario is written from a thread of its own, because the program may
@@ -97,8 +148,9 @@ fn keep_scenario(keep: &Path, seed: u64, scenario: &[u8]) -> io::Result<PathBuf>
     Ok(file)
 }
 
-fn report(seed: u64, file: &Path, difference: &Difference) {
+fn report(seed: u64, args: &[String], file: &Path, difference: &Difference) {
     println!("difference at seed {seed}, line {}", difference.line);
+    args.iter().for_each(|arg| println!("  given:  {arg}"));
     println!("  second: {}", difference.ours);
     println!("  other:  {}", difference.theirs);
     println!("  scenario kept as {}", file.display());

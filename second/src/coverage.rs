@@ -87,20 +87,25 @@ impl Coverage {
 
     /// What a wild enough maker should have reached and has not.
     pub fn missing(&self) -> Vec<&'static str> {
-        let named = NAMES.iter().zip(self.counts);
-        named
-            .filter(|(name, count)| *count == 0 && **name != UNREACHABLE)
-            .map(|(name, _)| *name)
-            .collect()
+        let mut missing = never(&NAMES, &self.counts);
+        missing.retain(|name| *name != UNREACHABLE);
+        missing
     }
+}
+
+/// The names whose count is 0.
+pub fn never(names: &[&'static str], counts: &[u64]) -> Vec<&'static str> {
+    let named = names.iter().zip(counts);
+    named.filter(|(_, count)| **count == 0).map(|(name, _)| *name).collect()
+}
+
+pub fn write_counts(f: &mut fmt::Formatter, names: &[&str], counts: &[u64]) -> fmt::Result {
+    names.iter().zip(counts).try_for_each(|(name, count)| write!(f, " {name}={count}"))
 }
 
 impl fmt::Display for Coverage {
     fn fmt(&self, f: &mut fmt::Formatter) -> fmt::Result {
         write!(f, "coverage scenarios={}", self.scenarios)?;
-        for (name, count) in NAMES.iter().zip(self.counts) {
-            write!(f, " {name}={count}")?;
-        }
-        Ok(())
+        write_counts(f, &NAMES, &self.counts)
     }
 }

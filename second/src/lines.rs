@@ -23,9 +23,12 @@ pub fn push_decimal(out: &mut Vec<u8>, number: u32) {
     out.extend_from_slice(&digits[place..]);
 }
 
+fn digits(byte: u8) -> [u8; 2] {
+    [HEX[(byte >> 4) as usize], HEX[(byte & 0x0F) as usize]]
+}
+
 fn push_byte(out: &mut Vec<u8>, byte: u8) {
-    let high = HEX[(byte >> 4) as usize];
-    let low = HEX[(byte & 0x0F) as usize];
+    let [high, low] = digits(byte);
     out.extend_from_slice(&[b' ', high, low]);
 }
 
@@ -57,6 +60,15 @@ pub fn push_event(out: &mut Vec<u8>, table: &Table, event: &Event) {
             push_byte(out, *slave);
             push_bytes(out, part.payload());
         }
+    }
+    out.push(b'\n');
+}
+
+/// A record of the log: its bytes with a blank between them.
+pub fn push_record(out: &mut Vec<u8>, record: &[u8]) {
+    if let Some((&tag, rest)) = record.split_first() {
+        out.extend_from_slice(&digits(tag));
+        push_bytes(out, rest);
     }
     out.push(b'\n');
 }

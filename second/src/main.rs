@@ -7,6 +7,8 @@ mod coverage;
 mod event;
 mod intake;
 mod lines;
+mod log;
+mod log_coverage;
 mod maker;
 mod random;
 mod scenario;
@@ -17,6 +19,7 @@ mod tests;
 mod timing;
 mod transfer;
 mod wire;
+mod wirelog;
 
 use std::fs::File;
 use std::io::{self, Read, Write};
@@ -24,13 +27,16 @@ use std::path::Path;
 use std::process::ExitCode;
 
 const USAGE: &str = "usage:
-  second run                                   scenario on standard input
-  second make SEED                             scenario on standard output
-  second compare N SEED PROGRAM [KEEP_DIR]     against another program
-  second coverage N SEED                       what N scenarios reach
-  second lines FILE...                         the lines of scenario files
-  second stored DIR                            writes the stored scenarios
-  second bench PROGRAM                         times another program";
+  second run                                     scenario on standard input
+  second log LENGTH                              the log, scenario on standard input
+  second make SEED                               scenario on standard output
+  second compare N SEED PROGRAM [KEEP_DIR]       against another program
+  second compare-logs N SEED PROGRAM [KEEP_DIR]  the logs against another program
+  second coverage N SEED                         what N scenarios reach
+  second lines FILE...                           the lines of scenario files
+  second stored DIR                              writes the stored scenarios
+  second stored-logs DIR                         writes the stored logs
+  second bench PROGRAM                           times another program";
 
 fn main() -> ExitCode {
     let args: Vec<String> = std::env::args().skip(1).collect();
@@ -52,6 +58,7 @@ fn main() -> ExitCode {
 fn dispatch(words: &[&str]) -> Option<io::Result<ExitCode>> {
     match *words {
         ["run"] => Some(run()),
+        ["log", length] => Some(run_log(wirelog::length(length)?)),
         ["make", seed] => {
             let seed = seed.parse().ok()?;
             Some(print(&maker::make(seed)))
@@ -60,13 +67,18 @@ fn dispatch(words: &[&str]) -> Option<io::Result<ExitCode>> {
             let (count, seed) = (count.parse().ok()?, seed.parse().ok()?);
             Some(show_coverage(count, seed))
         }
-        ["compare", count, seed, program, ref rest @ ..] if rest.len() <= 1 => {
+        [what @ ("compare" | "compare-logs"), count, seed, program, ref rest @ ..]
+            if rest.len() <= 1 =>
+        {
             let (count, seed) = (count.parse().ok()?, seed.parse().ok()?);
             let keep = Path::new(rest.first().copied().unwrap_or("."));
-            Some(compare::compare(count, seed, program, keep).map(code))
+            let logs = what == "compare-logs";
+            let compare = if logs { compare::compare_logs } else { compare::compare };
+            Some(compare(count, seed, program, keep).map(code))
         }
         ["lines", ref files @ ..] if !files.is_empty() => Some(show_lines(files)),
         ["stored", dir] => Some(stored::store(Path::new(dir)).map(code)),
+        ["stored-logs", dir] => Some(stored::logs::store(Path::new(dir)).map(code)),
         ["bench", program] => Some(timing::time(program).map(code)),
         _ => None,
     }
@@ -99,6 +111,11 @@ fn run() -> io::Result<ExitCode> {
     print(&out)
 }
 
+fn run_log(length: u64) -> io::Result<ExitCode> {
+    let (out, _) = wirelog::run(length, &read(io::stdin().lock())?);
+    print(&out)
+}
+
 fn show_lines(files: &[&str]) -> io::Result<ExitCode> {
     let mut out = Vec::new();
     for file in files {
@@ -114,8 +131,9 @@ fn show_lines(files: &[&str]) -> io::Result<ExitCode> {
 /// Fails if something stays at 0 that the maker ought to reach.
 fn show_coverage(count: u64, seed: u64) -> io::Result<ExitCode> {
     let total = compare::coverage(count, seed);
-    println!("{total}");
-    let missing = total.missing();
+    let logs = compare::log_coverage(count, seed);
+    println!("{total}\n{logs}");
+    let missing = [total.missing(), logs.missing()].concat();
     if !missing.is_empty() {
         println!("never: {}", missing.join(" "));
     }

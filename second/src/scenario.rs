@@ -70,7 +70,8 @@ pub fn write(out: &mut Vec<u8>, op: &Op) {
     }
 }
 
-fn push_field(out: &mut Vec<u8>, tag: u8, start: &[u8], rest: &[u8]) {
+/// Tag, length in two bytes, value (in two pieces): the tagged form.
+pub fn push_field(out: &mut Vec<u8>, tag: u8, start: &[u8], rest: &[u8]) {
     let len = (start.len() + rest.len()) as u16;
     out.push(tag);
     out.extend_from_slice(&len.to_be_bytes());

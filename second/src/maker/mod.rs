@@ -4,18 +4,32 @@
 mod aimed;
 mod blind;
 mod draft;
+mod length;
 mod ruin;
 
+use crate::random::Random;
+use crate::wirelog;
 use draft::Draft;
 
 /// The scenario of a seed; the same bytes every time.
 pub fn make(seed: u64) -> Vec<u8> {
     let mut draft = Draft::new(seed);
     draft.attach_stations();
-    if draft.random.percent(50) {
-        blind::fill(&mut draft);
-    } else {
-        aimed::fill(&mut draft);
-    }
+    fill(&mut draft);
     ruin::ruin(draft)
+}
+
+fn fill(draft: &mut Draft) {
+    if draft.random.percent(50) {
+        blind::fill(draft);
+    } else {
+        aimed::fill(draft);
+    }
+}
+
+/// A scenario and a length for its log.
+pub fn make_log(seed: u64) -> (Vec<u8>, String) {
+    let scenario = make(seed);
+    let length = length::length(&mut Random::new(!seed), &wirelog::sizes(&scenario));
+    (scenario, length)
 }

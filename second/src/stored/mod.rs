@@ -8,6 +8,7 @@ mod access;
 mod answers;
 mod calls;
 mod form;
+pub mod logs;
 mod parts;
 mod text;
 
@@ -78,8 +79,9 @@ pub fn store(dir: &Path) -> io::Result<bool> {
     fs::write(dir.join("args"), args)?;
     fs::write(dir.join("stdout"), stdout)?;
     println!("{} files written", entries().count());
-    Ok(same_files("README.md", named(&data.join("README.md"))?)
-        & same_files("the folder", present(&data)?)
+    let listed: BTreeSet<String> = entries().map(Entry::file).collect();
+    Ok(same_files("README.md", named(&data.join("README.md"))?, listed.clone())
+        & same_files("the folder", present(&data)?, listed)
         & good)
 }
 
@@ -108,8 +110,7 @@ fn present(data: &Path) -> io::Result<BTreeSet<String>> {
     Ok(files)
 }
 
-fn same_files(place: &str, found: BTreeSet<String>) -> bool {
-    let listed: BTreeSet<String> = entries().map(Entry::file).collect();
+fn same_files(place: &str, found: BTreeSet<String>, listed: BTreeSet<String>) -> bool {
     for file in listed.difference(&found) {
         println!("{place} lacks {file}");
     }

@@ -237,6 +237,17 @@ pub const ENTRIES: &[Entry] = &[
          / 53 08 taken / 53 10 answer 08 00 / 54 10 free / end 54",
     ),
     entry(
+        "part-long-after-short",
+        "three to 30, where nobody is (FE in 17, 00 in 25 and 33), then 16 data bytes to 08",
+        "01 0001 10  02 0001 08  ( 04 0004 10 30 5002 )*3
+         04 0014 10 08 5002 000102030405060708090A0B0C0D0E0F
+         05 0002 0010  06 0001 FE  05 0002 0007  06 0001 00  05 0002 0007  06 0001 00
+         05 0002 0018",
+        "11 10 owns / 17 10 failed 2 / 18 10 free / 19 10 owns / 25 10 taken / 26 10 free
+         / 27 10 owns / 33 10 taken / 34 10 free / 35 10 owns / 57 10 taken
+         / 57 08 given 10 50 02 10 00 01 02 03 04 05 06 07 08 09 0A 0B 0C 0D 0E 0F / end 57",
+    ),
+    entry(
         "limit-nn-heard",
         "NN 17 in 6 gets FF in 7; the repetition with NN 16 is handed out",
         "02 0001 08  06 0001 AA

@@ -33,12 +33,12 @@ fn push_digits(out: &mut Vec<u8>, word: &str) {
 
 /// The header, and the lines that the slashes part.
 pub fn lines(text: &str) -> String {
-    let mut out = String::from_utf8_lossy(HEADER).into_owned();
-    for line in text.split('/') {
-        out += line.trim();
-        out.push('\n');
-    }
-    out
+    String::from_utf8_lossy(HEADER).into_owned() + &plain(text)
+}
+
+/// The lines alone.
+pub fn plain(text: &str) -> String {
+    text.split('/').map(|line| format!("{}\n", line.trim())).collect()
 }
 
 #[cfg(test)]

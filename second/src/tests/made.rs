@@ -1,9 +1,11 @@
 //! What must hold for every made scenario.
 
 use crate::bench;
-use crate::compare::coverage;
+use crate::compare::{coverage, log_coverage};
+use crate::log::LENGTHS;
 use crate::maker;
 use crate::scenario::{self, Op};
+use crate::wirelog;
 
 #[test]
 fn a_seed_gives_one_scenario() {
@@ -53,4 +55,61 @@ fn hearing_what_is_sent_changes_nothing() {
 #[test]
 fn maker_reaches_everything() {
     assert_eq!(coverage(10_000, 1).missing(), Vec::<&str>::new());
+    assert_eq!(log_coverage(10_000, 1).missing(), Vec::<&str>::new());
+}
+
+/// A log of 65,536 bytes holds all records of a scenario that is not extreme;
+/// none of a scenario of bad form.
+fn all_records(scenario: &[u8]) -> Option<String> {
+    scenario::parse(scenario).ok()?;
+    let fits = wirelog::sizes(scenario).iter().sum::<usize>() <= 65_536;
+    fits.then(|| String::from_utf8(wirelog::run(65_536, scenario).0).unwrap())
+}
+
+/// The other sentence of 02: the longest run of latest records that fits.
+#[test]
+fn held_is_the_longest_run_of_latest_that_fits() {
+    for seed in 0..3000 {
+        let (whole, text) = maker::make_log(seed);
+        let length = wirelog::length(&text).unwrap();
+        if !LENGTHS.contains(&length) {
+            continue;
+        }
+        let Some(all) = all_records(&whole) else { continue };
+        let size = |line: &str| (line.len() as u64 + 1) / 3;
+        let lines: Vec<&str> = all.lines().collect();
+        let fits =
+            |from: &usize| lines[*from..].iter().map(|line| size(line)).sum::<u64>() <= length;
+        let first = (0..=lines.len()).find(fits).unwrap();
+        let held: String = lines[first..].iter().map(|line| format!("{line}\n")).collect();
+        let printed = wirelog::run(length, &whole).0;
+        assert_eq!(String::from_utf8(printed).unwrap(), held, "seed {seed}");
+    }
+}
+
+/// A line of the bench and its record say the same.
+#[test]
+fn records_are_those_of_the_bench_lines() {
+    for seed in 0..1000 {
+        let whole = maker::make(seed);
+        let Some(records) = all_records(&whole) else { continue };
+        let printed = String::from_utf8(bench::run(&whole).0).unwrap();
+        let lines = printed.lines().filter(|line| line.as_bytes()[0].is_ascii_digit());
+        let wanted: String = lines.map(|line| format!("{}\n", record_of(line))).collect();
+        assert_eq!(records, wanted, "seed {seed}");
+    }
+}
+
+/// From the text of a line to the text of its record.
+fn record_of(line: &str) -> String {
+    let words: Vec<&str> = line.split(' ').collect();
+    let slot: u32 = words[0].parse().unwrap();
+    let names = ["owns", "taken", "failed", "free", "given", "answer"];
+    let tag = names.iter().position(|name| *name == words[2]).unwrap() + 1;
+    let mut bytes = vec![tag as u8, 0, words.len() as u8 + 2];
+    bytes.extend(slot.to_be_bytes());
+    let values = words[1..].iter().filter(|word| !names.contains(word));
+    bytes.extend(values.map(|value| u8::from_str_radix(value, 16).unwrap()));
+    let text: Vec<String> = bytes.iter().map(|byte| format!("{byte:02X}")).collect();
+    text.join(" ")
 }

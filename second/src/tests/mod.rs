@@ -6,6 +6,7 @@ mod access;
 mod answers;
 mod foreign;
 mod limits;
+mod logs;
 mod made;
 mod parts;
 mod refusals;

@@ -1,0 +1,154 @@
+//! The stored runs of `wirelog`: a length, a stored scenario and the lines,
+//! worked out by hand from 02 and the scenario's bench lines. How is told in
+//! `docs/STORED_LOGS.md`, record by record.
+
+use super::{entries, present, same_files, text, Entry};
+use crate::wirelog;
+use std::collections::BTreeSet;
+use std::fs;
+use std::io;
+use std::path::Path;
+
+struct Pair {
+    length: &'static str,
+    /// The scenario's name in the lists of this module.
+    name: &'static str,
+    /// The lines, with slashes between them.
+    lines: &'static str,
+}
+
+const fn pair(length: &'static str, name: &'static str, lines: &'static str) -> Pair {
+    Pair { length, name, lines }
+}
+
+const SAMPLE: &str = "01 00 05 00 00 00 0B 10
+    / 02 00 05 00 00 00 11 10
+    / 05 00 09 00 00 00 11 08 10 50 02 00
+    / 02 00 05 00 00 00 15 08
+    / 06 00 08 00 00 00 15 10 08 01 64
+    / 04 00 05 00 00 00 16 10";
+
+/// From the first free line on, wherever the buffer's end falls.
+const DISTURBED: &str = "04 00 05 00 00 00 16 10
+    / 01 00 05 00 00 00 21 10
+    / 02 00 05 00 00 00 27 10
+    / 05 00 09 00 00 00 27 08 10 50 03 00
+    / 02 00 05 00 00 00 2A 08
+    / 06 00 07 00 00 00 2A 10 08 00
+    / 04 00 05 00 00 00 2B 10";
+
+const PAIRS: &[Pair] = &[
+    pair("63", "sample", "refused 16"),
+    pair("64", "sample", SAMPLE),
+    pair("4096", "sample", SAMPLE),
+    pair("65536", "sample", SAMPLE),
+    pair("65537", "sample", "refused 16"),
+    pair("64", "form-first-of-two", "refused 14 27"),
+    pair("63", "form-first-of-two", "refused 16"),
+    pair("64", "size-65537", "refused 15 65536"),
+    pair("65537", "size-65537", "refused 16"),
+    pair(
+        "64",
+        "access-p8",
+        "02 00 05 00 00 00 10 00
+         / 05 00 09 00 00 00 10 01 00 50 02 00
+         / 04 00 05 00 00 00 11 00
+         / 01 00 05 00 00 00 12 01
+         / 02 00 05 00 00 00 17 01
+         / 05 00 09 00 00 00 17 00 01 50 02 00
+         / 04 00 05 00 00 00 18 01",
+    ),
+    pair("64", "release-disturbed", DISTURBED),
+    pair("65", "release-disturbed", DISTURBED),
+    pair("68", "release-disturbed", DISTURBED),
+    pair(
+        "109",
+        "part-long-after-short",
+        "03 00 06 00 00 00 11 10 02
+         / 04 00 05 00 00 00 12 10
+         / 01 00 05 00 00 00 13 10
+         / 02 00 05 00 00 00 19 10
+         / 04 00 05 00 00 00 1A 10
+         / 01 00 05 00 00 00 1B 10
+         / 02 00 05 00 00 00 21 10
+         / 04 00 05 00 00 00 22 10
+         / 01 00 05 00 00 00 23 10
+         / 02 00 05 00 00 00 39 10
+         / 05 00 19 00 00 00 39 08 10 50 02 10 00 01 02 03 04 05 06 07 08 09 0A 0B 0C 0D 0E 0F",
+    ),
+    pair(
+        "64",
+        "part-long-after-short",
+        "02 00 05 00 00 00 21 10
+         / 04 00 05 00 00 00 22 10
+         / 01 00 05 00 00 00 23 10
+         / 02 00 05 00 00 00 39 10
+         / 05 00 19 00 00 00 39 08 10 50 02 10 00 01 02 03 04 05 06 07 08 09 0A 0B 0C 0D 0E 0F",
+    ),
+    pair(
+        "64",
+        "limit-stations",
+        "05 00 09 00 00 00 10 53 00 50 02 00
+         / 05 00 09 00 00 00 10 54 00 50 02 00
+         / 05 00 09 00 00 00 10 55 00 50 02 00
+         / 05 00 09 00 00 00 10 56 00 50 02 00
+         / 04 00 05 00 00 00 11 00",
+    ),
+];
+
+impl Pair {
+    fn entry(&self) -> &'static Entry {
+        entries().find(|entry| entry.name == self.name).expect("a stored scenario")
+    }
+
+    /// What `second log` prints.
+    fn printed(&self) -> String {
+        let length = wirelog::length(self.length).expect("a length of digits");
+        let (out, _) = wirelog::run(length, &text::bytes(self.entry().hex));
+        String::from_utf8_lossy(&out).into_owned()
+    }
+}
+
+/// Writes the files, the pairs of length and file, and the lines of the list.
+/// False if `second log` prints others, or if the folder has other files.
+pub fn store(dir: &Path) -> io::Result<bool> {
+    let data = dir.join("data");
+    fs::create_dir_all(&data)?;
+    let (mut args, mut stdout, mut good) = (String::new(), String::new(), true);
+    for pair in PAIRS {
+        let (length, file) = (pair.length, pair.entry().file());
+        if pair.printed() != text::plain(pair.lines) {
+            println!("{length} {file}: other lines than the list has");
+            good = false;
+        }
+        fs::write(data.join(&file), text::bytes(pair.entry().hex))?;
+        args += &format!("{length}\n{file}\n");
+        stdout += &format!("== {length} {file}\n{}", text::plain(pair.lines));
+    }
+    fs::write(dir.join("args"), args)?;
+    fs::write(dir.join("stdout"), stdout)?;
+    println!("{} pairs written", PAIRS.len());
+    let used: BTreeSet<String> = PAIRS.iter().map(|pair| pair.entry().file()).collect();
+    Ok(same_files("the folder", present(&data)?, used) & good)
+}
+
+#[cfg(test)]
+mod tests {
+    use super::*;
+
+    #[test]
+    fn lines_are_those_of_the_list() {
+        for pair in PAIRS {
+            assert_eq!(pair.printed(), text::plain(pair.lines), "{} {}", pair.length, pair.name);
+        }
+    }
+
+    #[test]
+    fn page_names_every_pair_once() {
+        let page = include_str!("../../../docs/STORED_LOGS.md");
+        for pair in PAIRS {
+            let row = format!("| {} | `{}.bin` |", pair.length, pair.name);
+            assert_eq!(page.matches(&row).count(), 1, "{row}");
+        }
+    }
+}
