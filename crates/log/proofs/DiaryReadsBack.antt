@@ -22,7 +22,7 @@ use Rattle.log.proofs.ReadsBack.{Numbered, entryOf, log-reads-back}
 abbrev pub Slot32 : Bus → Type 0
 Slot32 b = b .slot < 2 ^ 32
 
-events-numbered : (slot : ℕ) (es : List Event) → slot < 2 ^ 32 → Every Numbered (map (line slot) es)
+pub events-numbered : (slot : ℕ) (es : List Event) → slot < 2 ^ 32 → Every Numbered (map (line slot) es)
 events-numbered slot [] h = none
 events-numbered slot (e ∷ es) h = next h (events-numbered slot es h)
 
@@ -31,7 +31,7 @@ unfolding allLines
 lines-numbered none = none
 lines-numbered (next {a = b} h hs) = every-append (events-numbered (b .slot) (events b) h) (lines-numbered hs)
 
-every-behind : (xs : List Line) {ys : List Line} → Every Numbered (xs ++ ys) → Every Numbered ys
+pub every-behind : (xs : List Line) {ys : List Line} → Every Numbered (xs ++ ys) → Every Numbered ys
 every-behind [] ns = ns
 every-behind (x ∷ xs) (next n ns) = every-behind xs ns
 
