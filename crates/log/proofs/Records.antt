@@ -18,29 +18,21 @@ use Rattle.bus.specs.declared.bus.Bus.{Bus}
 use Rattle.log.specs.Record.{line, tagOf, slotBytes, valueOf, recordOf, headOf}
 use Rattle.log.specs.Ring.{Ring, ring, roomFor, pushed}
 use Rattle.log.specs.Note.{noted, notedAll, recordsOf, slotRecords, begun, written, passRecords}
+use Rattle.log.proofs.Formed.{length-value, length-record}
 use Rattle.log.proofs.Written.{pushed-append, both, both-noted, piece-noted, finished-noted}
-
--- a record has eight bytes before the line's other values
-pub length-value : (slot : ℕ) (e : Event) → length (valueOf (line slot e)) ≡ length (e .values) + 5
-unfolding valueOf slotBytes
-length-value slot e = omega arith
-
-pub length-record : (slot : ℕ) (e : Event) → length (recordOf (line slot e)) ≡ length (e .values) + 8
-unfolding recordOf
-length-record slot e = omega (arith, length-value slot e)
 
 -- what stands before the other values, and they
 pub record-written : (slot : ℕ) (e : Event) → headOf (tagOf (e .word)) (length (e .values)) slot (e .station) ++ e .values ≡ recordOf (line slot e)
 unfolding headOf recordOf valueOf slotBytes
-record-written slot e = rw (length-value slot e)
+record-written slot e = rw (length-value (line slot e))
 
 -- an event is noted
 pub written-noted : (d : Ring) (slot : ℕ) (e : Event) → written d (tagOf (e .word)) slot (e .station) (e .values) ≡ noted d (recordOf (line slot e))
 unfolding written begun noted
 written-noted d slot e =
-    pushed-append (ring (d .bytes) (roomFor (length (e .values) + 8) (d .bytes) (d .log))) (headOf (tagOf (e .word)) (length (e .values)) slot (e .station)) (e .values)
-    ∙ ap (λ (v : List ℕ). pushed (ring (d .bytes) (roomFor (length (e .values) + 8) (d .bytes) (d .log))) v) (record-written slot e)
-    ∙ ap (λ (n : ℕ). pushed (ring (d .bytes) (roomFor n (d .bytes) (d .log))) (recordOf (line slot e))) (sym (length-record slot e))
+    pushed-append (ring (d .bytes) (roomFor (8 + length (e .values)) (d .bytes) (d .log))) (headOf (tagOf (e .word)) (length (e .values)) slot (e .station)) (e .values)
+    ∙ ap (λ (v : List ℕ). pushed (ring (d .bytes) (roomFor (8 + length (e .values)) (d .bytes) (d .log))) v) (record-written slot e)
+    ∙ ap (λ (n : ℕ). pushed (ring (d .bytes) (roomFor n (d .bytes) (d .log))) (recordOf (line slot e))) (sym (length-record (line slot e)))
 
 -- the records of some events, and behind them those of others
 pub records-append : (slot : ℕ) (es fs : List Event) → recordsOf slot (es ++ fs) ≡ recordsOf slot es ++ recordsOf slot fs
@@ -59,12 +51,12 @@ unfolding pushed written
 plain-noted d slot a w = one-noted d slot (event a w [])
 
 -- QQ and ZZ that a free line lets go are not noted
-pub free-noted : (d : Ring) (slot a : ℕ) (t : Telegram) → begun d 4 0 slot a ≡ notedAll d (recordsOf slot (freeEvent a t ∷ []))
+pub free-noted : (d : Ring) (slot a : ℕ) (t : Telegram) → begun d (tagOf free) 0 slot a ≡ notedAll d (recordsOf slot (freeEvent a t ∷ []))
 unfolding pushed written
 free-noted d slot a t = one-noted d slot (freeEvent a t)
 
 -- two events
-pub two-noted : (d : Ring) (slot a n : ℕ) (t : Telegram) {p q : Ring} → p ≡ written d 3 slot a (n ∷ []) → q ≡ begun p 4 0 slot a
+pub two-noted : (d : Ring) (slot a n : ℕ) (t : Telegram) {p q : Ring} → p ≡ written d (tagOf failed) slot a (n ∷ []) → q ≡ begun p (tagOf free) 0 slot a
     → q ≡ notedAll d (recordsOf slot (event a failed (n ∷ []) ∷ freeEvent a t ∷ []))
 two-noted d slot a n t {p} {q} e f =
     both-noted d (recordsOf slot (event a failed (n ∷ []) ∷ [])) (recordsOf slot (freeEvent a t ∷ [])) (e ∙ one-noted d slot (event a failed (n ∷ []))) (f ∙ free-noted p slot a t)

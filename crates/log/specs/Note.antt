@@ -51,7 +51,7 @@ noteIn d b = cond (isOf (d .log) (length (d .bytes))) (kept (notedAll d (slotRec
 
 -- room is made, and what stands before the other values is written
 unfoldable pub begun : Ring → ℕ → ℕ → ℕ → ℕ → Ring
-begun d tag more slot station = pushed (ring (d .bytes) (roomFor (more + 8) (d .bytes) (d .log))) (headOf tag more slot station)
+begun d tag more slot station = pushed (ring (d .bytes) (roomFor (8 + more) (d .bytes) (d .log))) (headOf tag more slot station)
 
 -- and the other values
 unfoldable pub written : Ring → ℕ → ℕ → ℕ → List ℕ → Ring

@@ -39,7 +39,7 @@ recordOf l = tagOf (l .event .word) ∷ length (valueOf l) / 256 ∷ length (val
 
 -- what stands before the other values, of which there are so many
 unfoldable pub headOf : ℕ → ℕ → ℕ → ℕ → List ℕ
-headOf tag more slot station = tag ∷ (more + 5) / 256 ∷ (more + 5) % 256 ∷ slotBytes slot ++ station ∷ []
+headOf tag more slot station = tag ∷ (5 + more) / 256 ∷ (5 + more) % 256 ∷ slotBytes slot ++ station ∷ []
 
 abbrev pub givenValues : Telegram → List ℕ
 givenValues t = t .qq ∷ t .pb ∷ t .sb ∷ length (bytesOf (t .load)) ∷ bytesOf (t .load)

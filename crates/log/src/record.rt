@@ -4,8 +4,8 @@ ghost use mathlib.Core.Bool.{true, false};
 ghost use mathlib.Core.List.{[], _∷_};
 ghost use Prim.Native.Nat.{_+_};
 ghost use Rattle.wire.specs.Form.{bytesOf, countOf};
-ghost use Rattle.station.specs.Events.{numberOf};
-ghost use Rattle.log.specs.Record.{slotBytes, headOf, givenValues, answerValues};
+ghost use Rattle.station.specs.Events.{failed, given, answer, numberOf};
+ghost use Rattle.log.specs.Record.{tagOf, slotBytes, givenValues, answerValues};
 ghost use Rattle.log.specs.Ring.{ring, pushed};
 ghost use Rattle.log.specs.Note.{begun, written, notedAll, passRecords};
 use crate::log::Log;
@@ -30,8 +30,8 @@ fn slot_number(l: Log, bytes: &mut [u8], slot: u32) -> Log
 fn begin(l: Log, bytes: &mut [u8], tag: u8, more: u8, slot: u32, station: u8) -> Log
     ensures { λ r. ⌜ ring (now (bytes .exit)) r ≡ begun (ring (now (bytes .entry)) l) tag more slot station ⌝ }
 {
-    let n = (more as u16) + 5;
-    let roomy = ring::room_for(l, bytes, (more as usize) + 8);
+    let n = 5 + (more as u16);
+    let roomy = ring::room_for(l, bytes, 8 + (more as usize));
     let a = ring::put(roomy, bytes, tag);
     let b = ring::put(a, bytes, (n / 256) as u8);
     let c = ring::put(b, bytes, (n % 256) as u8);
@@ -52,7 +52,7 @@ fn failure_number(f: Failure) -> u8
 }
 
 fn failed(l: Log, bytes: &mut [u8], slot: u32, station: u8, f: Failure) -> Log
-    ensures { λ r. ⌜ ring (now (bytes .exit)) r ≡ written (ring (now (bytes .entry)) l) 3 slot station (numberOf f ∷ []) ⌝ }
+    ensures { λ r. ⌜ ring (now (bytes .exit)) r ≡ written (ring (now (bytes .entry)) l) (tagOf failed) slot station (numberOf f ∷ []) ⌝ }
 {
     let a = begin(l, bytes, 3, 1, slot, station);
     ring::put(a, bytes, failure_number(f))
@@ -76,7 +76,7 @@ fn load(l: Log, bytes: &mut [u8], load: Load) -> Log
 
 // QQ, PB, SB, NN and data.
 fn given(l: Log, bytes: &mut [u8], slot: u32, station: u8, t: Telegram) -> Log
-    ensures { λ r. ⌜ ring (now (bytes .exit)) r ≡ written (ring (now (bytes .entry)) l) 5 slot station (givenValues t) ⌝ }
+    ensures { λ r. ⌜ ring (now (bytes .exit)) r ≡ written (ring (now (bytes .entry)) l) (tagOf given) slot station (givenValues t) ⌝ }
 {
     let carried = t.load;
     let a = begin(l, bytes, 5, 4 + wire::form::count_of(carried), slot, station);
@@ -88,7 +88,7 @@ fn given(l: Log, bytes: &mut [u8], slot: u32, station: u8, t: Telegram) -> Log
 
 // The slave's address, NN and data.
 fn answer(l: Log, bytes: &mut [u8], slot: u32, station: u8, t: Telegram) -> Log
-    ensures { λ r. ⌜ ring (now (bytes .exit)) r ≡ written (ring (now (bytes .entry)) l) 6 slot station (answerValues t) ⌝ }
+    ensures { λ r. ⌜ ring (now (bytes .exit)) r ≡ written (ring (now (bytes .entry)) l) (tagOf answer) slot station (answerValues t) ⌝ }
 {
     let carried = t.load;
     let a = begin(l, bytes, 6, 2 + wire::form::count_of(carried), slot, station);

@@ -2,18 +2,22 @@
 ghost use mathlib.Core.Path.{_≡_};
 ghost use Rattle.log.specs.Ring.{ring, placeOf, byteAt, sizeOfOldest, without, isShort, roomFor, pushed};
 ghost use mathlib.Core.List.{[], _∷_};
+ghost use Prim.Native.Nat.{_-_};
 use crate::log::Log;
 
-// Where the byte lies that stands k places behind the oldest.
+// What is left of a when b is taken away, 0 where b is more.
+fn less(a: usize, b: usize) -> usize
+    ensures { λ r. ⌜ r ≡ a - b ⌝ }
+{
+    if b < a { a - b } else { 0 }
+}
+
+// Where the byte lies that stands k places behind the oldest: past the buffer's end it goes on at its start.
 pub(crate) fn place(l: Log, k: usize) -> usize
     ensures { λ r. ⌜ r ≡ placeOf l k ⌝ }
 {
-    if l.start < l.room {
-        let ahead = l.room - l.start;
-        if k < ahead { l.start + k } else { k - ahead }
-    } else {
-        k
-    }
+    let ahead = less(l.room, l.start);
+    if k < ahead { l.start + k } else { k - ahead }
 }
 
 pub(crate) fn byte_at(l: Log, bytes: &[u8], k: usize) -> u8
@@ -36,19 +40,10 @@ pub(crate) fn size_of_oldest(l: Log, bytes: &[u8]) -> usize
 pub(crate) fn without(l: Log, n: usize) -> Log
     ensures { λ r. ⌜ r ≡ without l n ⌝ }
 {
-    let start = place(l, n);
-    if n < l.held {
-        Log {
-            start: start,
-            held: l.held - n,
-            room: l.room,
-        }
-    } else {
-        Log {
-            start: start,
-            held: 0,
-            room: l.room,
-        }
+    Log {
+        start: place(l, n),
+        held: less(l.held, n),
+        room: l.room,
     }
 }
 
@@ -58,10 +53,8 @@ fn is_short(l: Log, n: usize) -> bool
 {
     if l.held == 0 {
         false
-    } else if l.held < l.room {
-        l.room - l.held < n
     } else {
-        0 < n
+        less(l.room, l.held) < n
     }
 }
 

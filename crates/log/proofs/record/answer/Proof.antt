@@ -5,6 +5,8 @@ use Prim.Native.Nat.{ℕ}
 use native.Mathlib.Omega.{arith}
 use lib.ListN.{length}
 use Rattle.wire.proofs.Filling.{count-at-most}
+use Rattle.station.specs.Events.{answer}
+use Rattle.log.specs.Record.{tagOf}
 use Rattle.log.specs.Ring.{ring}
 use Rattle.log.specs.Note.{begun}
 use Rattle.log.proofs.Records.{load-written}
@@ -37,8 +39,8 @@ sixteen c = search needs
 returns : tie.Need-returns
 returns c = 
     let a = c .before .before .before .before .before .before .before .before .before .before .before .before .before .before .before .args in
-    load-written (ring (a .bytes .now) (a .l)) 6 (a .slot) (a .station) _ (a .t .zz ∷ []) (a .t .load) (sixteen (c .before .before .before .before .before .before .before .before .before .before .before .before .before)) (c .before .before .before .before .before .before .before .before .before .before .before .count-of .ensures)
-    (c .before .before .before .before .before .before .before .before .before .before .begin .ensures ∙ ap (λ (v : ℕ). begun (ring (a .bytes .now) (a .l)) 6 v (a .slot) (a .station)) (omega arith))
+    load-written (ring (a .bytes .now) (a .l)) (tagOf answer) (a .slot) (a .station) _ (a .t .zz ∷ []) (a .t .load) (sixteen (c .before .before .before .before .before .before .before .before .before .before .before .before .before)) (c .before .before .before .before .before .before .before .before .before .before .before .count-of .ensures)
+    (c .before .before .before .before .before .before .before .before .before .before .begin .ensures ∙ ap (λ (v : ℕ). begun (ring (a .bytes .now) (a .l)) (tagOf answer) v (a .slot) (a .station)) (omega arith))
     (c .before .before .before .before .before .before .put .ensures) (c .before .before .load .ensures)
 
 pub answer-spec : {M : Type 1} → statement M

@@ -5,6 +5,8 @@ use Prim.Native.Nat.{ℕ}
 use native.Mathlib.Omega.{arith}
 use lib.ListN.{length}
 use Rattle.wire.proofs.Filling.{count-at-most}
+use Rattle.station.specs.Events.{given}
+use Rattle.log.specs.Record.{tagOf}
 use Rattle.log.specs.Ring.{ring}
 use Rattle.log.specs.Note.{begun}
 use Rattle.log.proofs.Records.{load-written}
@@ -44,8 +46,8 @@ sixteen c = search needs
 returns : tie.Need-returns
 returns c = 
     let a = c .before .before .before .before .before .before .before .before .before .before .before .before .before .before .before .before .before .before .before .before .before .before .before .args in
-    load-written (ring (a .bytes .now) (a .l)) 5 (a .slot) (a .station) _ (a .t .qq ∷ a .t .pb ∷ a .t .sb ∷ []) (a .t .load) (sixteen (c .before .before .before .before .before .before .before .before .before .before .before .before .before .before .before .before .before .before .before .before .before)) (c .before .before .before .before .before .before .before .before .before .before .before .before .before .before .before .before .before .before .before .count-of .ensures)
-    (c .before .before .before .before .before .before .before .before .before .before .before .before .before .before .before .before .before .before .begin .ensures ∙ ap (λ (v : ℕ). begun (ring (a .bytes .now) (a .l)) 5 v (a .slot) (a .station)) (omega arith))
+    load-written (ring (a .bytes .now) (a .l)) (tagOf given) (a .slot) (a .station) _ (a .t .qq ∷ a .t .pb ∷ a .t .sb ∷ []) (a .t .load) (sixteen (c .before .before .before .before .before .before .before .before .before .before .before .before .before .before .before .before .before .before .before .before .before)) (c .before .before .before .before .before .before .before .before .before .before .before .before .before .before .before .before .before .before .before .count-of .ensures)
+    (c .before .before .before .before .before .before .before .before .before .before .before .before .before .before .before .before .before .before .begin .ensures ∙ ap (λ (v : ℕ). begun (ring (a .bytes .now) (a .l)) (tagOf given) v (a .slot) (a .station)) (omega arith))
     (both _ _ _ (both _ _ _ (c .before .before .before .before .before .before .before .before .before .before .before .before .before .before .put .ensures) (c .before .before .before .before .before .before .before .before .before .before .put2 .ensures)) (c .before .before .before .before .before .before .put3 .ensures)) (c .before .before .load .ensures)
 
 pub given-spec : {M : Type 1} → statement M

@@ -2,12 +2,11 @@
 use borrow.Author.Tests.{eq-eqb, ne-eqb}
 use Rattle.log.specs.Ring.{isShort}
 use borrow.Author.Needs.{needs}
-use Rattle.log.proofs.Places.{short-full}
 use Rattle.log.proofs.ring.is_short.Statement.{statement}
 use Rattle.log.proofs.ring.is_short.Tie as tie
 
-sub-result : tie.Need-sub-result
-sub-result c = search needs
+less-requires : tie.Need-less-requires
+less-requires c κs = search needs
 
 returns : tie.Need-returns
 unfolding isShort
@@ -15,10 +14,10 @@ returns c = simp (eq-eqb _ _ (c .if1 .taken))
 
 returns-2 : tie.Need-returns-2
 unfolding isShort
-returns-2 c = simp (ne-eqb _ _ (c .before .before .before .if1 .left))
-
-returns-3 : tie.Need-returns-3
-returns-3 c = short-full _ _ (c .before .before .if1 .left) (c .if2 .left)
+returns-2 c =
+    simp
+    (c .less .ensures,
+    ne-eqb _ _ (c .before .if1 .left))
 
 pub is-short-spec : {M : Type 1} → statement M
-is-short-spec = tie.close (tie.spec sub-result returns returns-2 returns-3)
+is-short-spec = tie.close (tie.spec less-requires returns returns-2)
