@@ -1,7 +1,7 @@
 -- What a search through a list found: the first element that passes the test, or that none does. Assumes nothing.
 use mathlib.Core.Path.{_≡_, refl, ap}
 use mathlib.Core.Bool.{Bool, true, false, cond, true≢false, false≢true}
-use mathlib.Core.List.{List, [], _∷_}
+use mathlib.Core.List.{List, [], _∷_, _++_}
 use Prim.Native.Nat.{ℕ, zero, suc, _+_, _<_}
 use native.Mathlib.Omega.{arith}
 use lib.ListN.{length, getD}
@@ -17,6 +17,10 @@ pub data Every {A : Type 0} (P : A → Type 0) : List A → Type 0 where
 pub every-map : {A : Type 0} {P Q : A → Type 0} → ((a : A) → P a → Q a) → {l : List A} → Every P l → Every Q l
 every-map f none = none
 every-map f (next {a = a} p ps) = next (f a p) (every-map f ps)
+
+pub every-append : {A : Type 0} {P : A → Type 0} {l r : List A} → Every P l → Every P r → Every P (l ++ r)
+every-append none rs = rs
+every-append (next q qs) rs = next q (every-append qs rs)
 
 -- the place where a search came to
 abbrev pub placeOf : Found → ℕ

@@ -1,12 +1,12 @@
 -- Facts on lists that the kit's library lacks. Assumes nothing.
 use mathlib.Core.Path.{_≡_, refl, sym, ap, _∙_}
 use mathlib.Core.List.{List, [], _∷_, _++_, map, append-assoc}
-use Prim.Native.Nat.{ℕ, zero, suc, _+_, _-_, _<_}
+use Prim.Native.Nat.{ℕ, zero, suc, _+_, _-_, _≤_, _<_}
 use native.Mathlib.Nat.{le-of-suc-le-suc, not-suc-le-zero}
 use native.Mathlib.Numerals.{add-one}
 use native.Mathlib.Omega.{arith}
-use lib.ListN.{length, getD, set, take, drop, replicate, length-map}
-use lib.Seq.{length-take-le, set-at, take-all, take-suc}
+use lib.ListN.{length, getD, set, take, drop, replicate, length-map, length-take}
+use lib.Seq.{drop-cons, getD-take, length-take-le, set-at, take-all, take-suc}
 
 -- what owning an array of structs tells is the length of a mapped list
 pub length-mapped : (X Y : Type 0) (f : X → Y) (l : List X) (n : ℕ) → length (map f l) ≡ n → length l ≡ n
@@ -47,3 +47,13 @@ copied-one xs n i h l =
     let front : length (take i xs) ≡ i = length-take-le i xs (omega arith) in
     rw (e, set-at (take i xs) 0 (replicate (n - (i + 1)) 0) (getD xs i 0) i front, add-one i, take-suc xs i 0 l)
     (sym (append-assoc (take i xs) (getD xs i 0 ∷ []) (replicate (n - suc i) 0)))
+
+-- what is left of a list, and of the first n of a list
+pub left-of : {A : Type 0} (l : List A) (i : ℕ) (d : A) → i < length l → drop i l ≡ getD l i d ∷ drop (i + 1) l
+left-of l i d h = rw add-one (drop-cons l i d h)
+
+pub left-of-first : {A : Type 0} (l : List A) (n i : ℕ) (d : A) → n ≤ length l → i < n
+    → drop i (take n l) ≡ getD l i d ∷ drop (i + 1) (take n l)
+left-of-first {A} l n i d f h =
+    let e : i < length (take n l) = simp length-take (omega arith) in
+    left-of (take n l) i d e ∙ ap (λ (a : A). a ∷ drop (i + 1) (take n l)) (getD-take n l i d h)

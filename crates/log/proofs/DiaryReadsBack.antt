@@ -4,7 +4,7 @@ use mathlib.Core.Bool.{true}
 use mathlib.Core.List.{List, [], _∷_, _++_, map}
 use Prim.Native.Nat.{ℕ, _^_, _<_}
 use lib.ListN.{length}
-use Rattle.laws.proofs.FirstIs.{Every, none, next}
+use Rattle.laws.proofs.FirstIs.{Every, none, next, every-append}
 use Rattle.station.specs.Events.{Event}
 use Rattle.bus.specs.Events.{events}
 use Rattle.bus.specs.declared.bus.Bus.{Bus}
@@ -14,7 +14,7 @@ use Rattle.log.specs.ReadBack.{readEntries}
 use Rattle.log.specs.Record.{Line, line}
 use Rattle.log.specs.Ring.{heldBytes}
 use Rattle.log.specs.Roomy.{AllRoomy}
-use Rattle.log.proofs.HoldsTheLatest.{logAfter, log-holds-the-latest, every-append}
+use Rattle.log.proofs.HoldsTheLatest.{logAfter, log-holds-the-latest}
 use Rattle.log.proofs.Longest.{goes-oldest-first}
 use Rattle.log.proofs.ReadsBack.{Numbered, entryOf, log-reads-back}
 

@@ -6,7 +6,7 @@ use mathlib.Core.List.{List, [], _∷_, _++_, map, append-assoc, append-nil}
 use Prim.Native.Nat.{ℕ, _≤_}
 use native.Mathlib.Omega.{arith}
 use lib.ListN.{length}
-use Rattle.laws.proofs.FirstIs.{Every, none, next}
+use Rattle.laws.proofs.FirstIs.{Every, none, next, every-append}
 use Rattle.station.specs.Events.{Event}
 use Rattle.bus.specs.Events.{events}
 use Rattle.bus.specs.declared.bus.Bus.{Bus}
@@ -107,10 +107,6 @@ oldest-go-whole bytes bs w rs =
       whole = log-holds-the-latest bytes bs w rs;
       fewest = λ xs ys e h. run-is-longest (length bytes) xs ys (allLines bs) e h;
     }
-
-pub every-append : {P : Line → Type 0} {xs ys : List Line} → Every P xs → Every P ys → Every P (xs ++ ys)
-every-append none qs = qs
-every-append (next p ps) qs = next p (every-append ps qs)
 
 every-last : {P : Line → Type 0} (ls : List Line) (l : Line) → Every P (ls ++ (l ∷ [])) → P l
 every-last [] l (next p ps) = p

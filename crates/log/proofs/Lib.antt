@@ -3,7 +3,6 @@ pub mod Formed
 pub mod Going
 pub mod Holds
 pub mod HoldsTheLatest
-pub mod Left
 pub mod Limits
 pub mod Longest
 pub mod OldestGoWhole

@@ -5,7 +5,7 @@ use mathlib.Core.List.{List, [], _∷_, _++_, append-assoc, append-nil}
 use Prim.Native.Nat.{ℕ, _+_, _≤_, _<_}
 use native.Mathlib.Omega.{arith}
 use lib.ListN.{length, getD, take, drop, length-append, length-take, drop-of-length-le}
-use Rattle.log.proofs.Left.{left-of-first}
+use Rattle.laws.proofs.Lists.{left-of-first}
 use Rattle.wire.specs.Form.{bytesOf, countOf}
 use Rattle.wire.specs.declared.part.Load.{Load}
 use Rattle.wire.specs.declared.part.Telegram.{Telegram}

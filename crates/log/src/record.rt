@@ -39,23 +39,11 @@ fn begin(l: Log, bytes: &mut [u8], tag: u8, more: u8, slot: u32, station: u8) ->
     ring::put(d, bytes, station)
 }
 
-fn failure_number(f: Failure) -> u8
-    ensures { λ r. ⌜ r ≡ numberOf f ⌝ }
-{
-    match f {
-        Failure::Disturbed => 1,
-        Failure::WrongAck => 2,
-        Failure::TwiceNak => 3,
-        Failure::SynHeard => 4,
-        Failure::PairBroken => 5,
-    }
-}
-
 fn failed(l: Log, bytes: &mut [u8], slot: u32, station: u8, f: Failure) -> Log
     ensures { λ r. ⌜ ring (now (bytes .exit)) r ≡ written (ring (now (bytes .entry)) l) (tagOf failed) slot station (numberOf f ∷ []) ⌝ }
 {
     let a = begin(l, bytes, 3, 1, slot, station);
-    ring::put(a, bytes, failure_number(f))
+    ring::put(a, bytes, f.number())
 }
 
 // NN and the data.

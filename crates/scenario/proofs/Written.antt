@@ -4,12 +4,9 @@ use mathlib.Core.Path.{_≡_, refl, sym, ap, _∙_}
 use mathlib.Core.Bool.{cond}
 use mathlib.Core.List.{List, [], _∷_, _++_}
 use Prim.Native.Nat.{ℕ, zero, suc, _+_, _-_, _/_, _≤_, _<_}
-use native.Mathlib.Numerals.{add-one}
 use native.Mathlib.Omega.{arith}
 use borrow.Author.Tests.{lt-ltb, le-ltb}
 use lib.Dec.{ltb}
-use lib.ListN.{length, getD, take, drop, length-take}
-use lib.Seq.{drop-cons, getD-take}
 use Rattle.scenario.specs.Pen.{Pen, pennedOne, penned, hexDigit, hexText, lastDigit, digitsOf}
 
 pub penned-append : (p : Pen) (xs ys : List ℕ) → penned (penned p xs) ys ≡ penned p (xs ++ ys)
@@ -44,16 +41,6 @@ piece p xs ys zs {q} e f = ap (λ (v : Pen). penned v ys) e ∙ penned-append p 
 pub finished : (p : Pen) (xs : List ℕ) {q : Pen} → xs ≡ [] → penned p xs ≡ q → p ≡ q
 unfolding penned
 finished p xs {q} e f = sym (ap (λ (v : List ℕ). penned p v) e) ∙ f
-
--- what is left of a list, and of the first n of a list
-pub left-of : {A : Type 0} (l : List A) (i : ℕ) (d : A) → i < length l → drop i l ≡ getD l i d ∷ drop (i + 1) l
-left-of l i d h = rw add-one (drop-cons l i d h)
-
-pub left-of-first : {A : Type 0} (l : List A) (n i : ℕ) (d : A) → n ≤ length l → i < n
-    → drop i (take n l) ≡ getD l i d ∷ drop (i + 1) (take n l)
-left-of-first {A} l n i d f h =
-    let e : i < length (take n l) = simp length-take (omega arith) in
-    left-of (take n l) i d e ∙ ap (λ (a : A). a ∷ drop (i + 1) (take n l)) (getD-take n l i d h)
 
 -- ---- digits
 

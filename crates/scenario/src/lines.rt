@@ -3,7 +3,6 @@ ghost use mathlib.Core.Path.{_≡_};
 ghost use Rattle.scenario.specs.Pen.{pen, penned};
 ghost use Rattle.scenario.specs.Lines.{beginText, plainText, failureText, loadText, givenText, answerText, passText, verdictText, formText, endText};
 ghost use mathlib.Core.Bool.{true, false};
-ghost use Rattle.station.specs.Events.{numberOf};
 ghost use Rattle.bus.specs.Refusal.{refusalNumber};
 use crate::pen;
 use crate::pen::ROOM;
@@ -33,24 +32,12 @@ fn plain(page: &mut [u8; ROOM], at: usize, slot: u32, station: u8, word: &[u8]) 
     pen::word(page, end, b"\n")
 }
 
-fn failure_number(f: Failure) -> u32
-    ensures { λ r. ⌜ r ≡ numberOf f ⌝ }
-{
-    match f {
-        Failure::Disturbed => 1,
-        Failure::WrongAck => 2,
-        Failure::TwiceNak => 3,
-        Failure::SynHeard => 4,
-        Failure::PairBroken => 5,
-    }
-}
-
 fn failed(page: &mut [u8; ROOM], at: usize, slot: u32, station: u8, f: Failure) -> usize
     ensures { λ r. ⌜ pen (now (page .exit)) r ≡ penned (pen (now (page .entry)) at) (failureText slot station f) ⌝ }
 {
     let to = begin(page, at, slot, station);
     let mid = pen::word(page, to, b" failed ");
-    let end = pen::decimal(page, mid, failure_number(f));
+    let end = pen::decimal(page, mid, f.number() as u32);
     pen::word(page, end, b"\n")
 }
 

@@ -1,5 +1,6 @@
 // What a station is about, what it says and hears in a slot, and what it is told.
 ghost use mathlib.Core.Path.{_≡_};
+ghost use Rattle.station.specs.Events.{numberOf};
 ghost use Rattle.station.specs.Phase.{owner};
 use wire::part::Part;
 use wire::reader::Cursor;
@@ -68,6 +69,21 @@ pub enum Failure {
     SynHeard,
     // 5: a broken pair in an answer.
     PairBroken,
+}
+
+impl Failure {
+    // The number that a failed line has.
+    pub fn number(self) -> u8
+        ensures { λ r. ⌜ r ≡ numberOf self ⌝ }
+    {
+        match self {
+            Failure::Disturbed => 1,
+            Failure::WrongAck => 2,
+            Failure::TwiceNak => 3,
+            Failure::SynHeard => 4,
+            Failure::PairBroken => 5,
+        }
+    }
 }
 
 // What a station is told in a slot. The part that it speaks of is the station's own.

@@ -19,7 +19,7 @@ use Rattle.station.specs.declared.replies.Reply.{Reply}
 use Rattle.station.specs.declared.replies.ReplyBook.{ReplyBook}
 use Rattle.station.specs.declared.replies.Written.{Written}
 use Rattle.station.proofs.Turned.{outboxAfter}
-use Rattle.laws.proofs.FirstIs.{Every, none, next}
+use Rattle.laws.proofs.FirstIs.{Every, none, next, every-append}
 
 abbrev pub Full : Telegram → Type 0
 Full t = Sixteen (t .load)
@@ -39,10 +39,6 @@ module _ {A : Type 0} {P : A → Type 0} where
   every-drop qs zero = qs
   every-drop none (suc i) = none
   every-drop (next q qs) (suc i) = every-drop qs i
-
-  pub every-append : {l r : List A} → Every P l → Every P r → Every P (l ++ r)
-  every-append none rs = rs
-  every-append (next q qs) rs = next q (every-append qs rs)
 
 abbrev pub AllFull : Outbox → Type 0
 AllFull o = Every Full (o .slots)

@@ -11,8 +11,8 @@ use Rattle.log.proofs.record.failed.Tie as tie
 begin-requires : tie.Need-begin-requires
 begin-requires c κs = search needs
 
-failure-number-requires : tie.Need-failure-number-requires
-failure-number-requires c κs = search needs
+number-requires : tie.Need-number-requires
+number-requires c κs = search needs
 
 put-requires : tie.Need-put-requires
 put-requires c κs = search needs
@@ -22,8 +22,8 @@ same-length c = search needs
 
 returns : tie.Need-returns
 unfolding written
-returns c = behind _ _ (c .before .before .before .before .before .before .before .begin .ensures) (c .before .before .put .ensures) (ap (λ (n : ℕ). n ∷ []) (c .before .before .before .failure-number .ensures))
+returns c = behind _ _ (c .before .before .before .before .before .before .before .begin .ensures) (c .before .before .put .ensures) (ap (λ (n : ℕ). n ∷ []) (c .before .before .before .number .ensures))
 
 pub failed-spec : {M : Type 1} → statement M
 failed-spec =
-    tie.close (tie.spec begin-requires failure-number-requires put-requires same-length returns)
+    tie.close (tie.spec begin-requires number-requires put-requires same-length returns)

@@ -8,7 +8,7 @@ use lib.ListN.{length, getD, take, drop, drop-of-length-le, length-take}
 use Rattle.wire.specs.Form.{countOf}
 use Rattle.wire.proofs.Filling.{count-at-most, counted-bytes}
 use Rattle.log.specs.Ring.{ring, pushed}
-use Rattle.log.proofs.Left.{left-of-first}
+use Rattle.laws.proofs.Lists.{left-of-first}
 use Rattle.log.proofs.Written.{both, piece, finished}
 use Rattle.log.proofs.record.load.Statement.{statement}
 use Rattle.log.proofs.record.load.Tie as tie

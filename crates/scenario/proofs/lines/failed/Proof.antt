@@ -14,8 +14,11 @@ slice-aggregate-word c = search needs
 word-requires : tie.Need-word-requires
 word-requires c κs = search needs
 
-failure-number-requires : tie.Need-failure-number-requires
-failure-number-requires c κs = search needs
+number-requires : tie.Need-number-requires
+number-requires c κs = search needs
+
+cast-decimal : tie.Need-cast-decimal
+cast-decimal c = search needs
 
 decimal-requires : tie.Need-decimal-requires
 decimal-requires c κs = search needs
@@ -33,7 +36,7 @@ returns c =
     let n = d .before in
     let b = n .before .before in
     let a = b .before .before .before in
-    rw (← n .failure-number .ensures)
+    rw (← n .number .ensures)
     (both _ _ _ (both _ _ _ (both _ _ _ (a .begin .ensures) (b .word .ensures)) (d .decimal .ensures)) (c .word2 .ensures))
 
 pub failed-spec : {M : Type 1} → statement M
@@ -43,7 +46,8 @@ failed-spec =
     begin-requires
     slice-aggregate-word
     word-requires
-    failure-number-requires
+    number-requires
+    cast-decimal
     decimal-requires
     slice-aggregate-word-2
     word-requires-2
