@@ -1,14 +1,12 @@
 -- With or without a log the bus, its events and its lines are the same, after every sequence of calls. Assumes nothing.
-use mathlib.Core.Path.{_≡_, refl, ap, subst, sym, _∙_}
-use mathlib.Core.List.{List, [], _∷_, _++_}
-use Prim.Native.Nat.{ℕ}
-use Rattle.station.specs.Events.{Event}
+use mathlib.Core.Path.{_≡_, refl, ap, subst, sym}
+use mathlib.Core.List.{List, [], _∷_}
 use Rattle.bus.specs.Bus.{poweredOn}
 use Rattle.bus.specs.Events.{events}
 use Rattle.bus.specs.declared.bus.Bus.{Bus}
 use Rattle.scenario.specs.Lines.{slotText}
-use Rattle.promises.specs.Calls.{Use, afterUses, ByteUses, Reachable, by-uses}
-use Rattle.listener.specs.Beside.{Beside, Act, onBus, setUp, note, empty, read, kth, afterAct, afterActs, switchedOn, usesOf, usesIn}
+use Rattle.promises.specs.Calls.{afterUses, ByteUses, Reachable, by-uses}
+use Rattle.listener.specs.Beside.{Beside, Act, onBus, setUp, note, empty, read, kth, afterAct, afterActs, switchedOn, usesIn}
 
 -- the bus is what the uses of the bus alone make it
 pub log-only-listens : (w : Beside) (acts : List Act) → afterActs w acts .bus ≡ afterUses (w .bus) (usesIn acts)

@@ -1,8 +1,8 @@
 -- Walks over the records that are held: enough turns for what is left, and where they come to. Assumes nothing.
 use mathlib.Core.Path.{_≡_, refl, sym, ap, _∙_}
 use mathlib.Core.Logic.{_≢_}
-use mathlib.Core.Bool.{Bool, true, false, cond, true≢false}
-use mathlib.Core.List.{List, [], _∷_}
+use mathlib.Core.Bool.{Bool, true, false, true≢false}
+use mathlib.Core.List.{List}
 use Prim.Native.Nat.{ℕ, zero, suc, _+_, _-_, _*_, _≤_, _<_}
 use native.Mathlib.Numerals.{unary-clauses, add-one}
 use native.Mathlib.Omega.{arith}
@@ -105,7 +105,7 @@ fits-on {n} {bytes} {used} {l} {r} {size} {m} f s i h e = go (f .turns) (f .enou
     go (suc k) t w =
         let left : n - (used + size) ≡ n - used - size = omega arith in
         let one : used + fittingFrom (suc k) bytes (n - used) l ≡ used + (size + further k (n - used - size)) =
-            rw (i, s) (simp (lt-ltb 0 (l .held) h, le-leb (sizeOfOldest (ring bytes l)) (n - used) (rw s at e))) in
+        rw (i, s) (simp (lt-ltb 0 (l .held) h, le-leb (sizeOfOldest (ring bytes l)) (n - used) (rw s at e))) in
         let moved : used + size + further k (n - used - size) ≡ used + (size + further k (n - used - size)) = omega arith in
         record {
           turns = k;

@@ -125,9 +125,8 @@ unfolding joined
 newest-held bytes bs w rs ls l e =
     let short : length (recordOf l) ≤ 28 = every-last ls l (rw e at (longest-of-all bs rs)) in
     let run = newest-is-held (length bytes) ls l (omega (arith, within-limits (length bytes) w .0)) in
-    let one : joined (l ∷ []) ≡ recordOf l = append-nil (recordOf l) in
-    (
+    let one : joined (l ∷ []) ≡ recordOf l = append-nil (recordOf l) in (
       run .0,
       log-holds-the-latest bytes bs w rs ∙ ap (λ (v : List Line). joined (longestRun (length bytes) v)) e ∙ ap (λ (v : List Line). joined v) (run .1)
-      ∙ joined-append (run .0) (l ∷ []) ∙ ap (λ (v : List ℕ). joined (run .0) ++ v) one,
+          ∙ joined-append (run .0) (l ∷ []) ∙ ap (λ (v : List ℕ). joined (run .0) ++ v) one,
     )

@@ -109,7 +109,7 @@ copies d xs ys out s e f =
 -- the oldest records, as many as fit whole; the rest of the lent buffer stays as it was
 pub reads : (d : Ring) (ls : List Line) (out : List ℕ) → Sound d → heldBytes d ≡ joined ls
     → readInto d out ≡ copying (joined (fittingRun (length out) ls) ++ drop (length (joined (fittingRun (length out) ls))) out)
-      (record { used = length (joined (fittingRun (length out) ls)); said = Done })
+    (record { used = length (joined (fittingRun (length out) ls)); said = Done })
 unfolding readInto
 reads d ls out s e =
     let h = holds-lines d ls s e in

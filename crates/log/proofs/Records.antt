@@ -1,7 +1,7 @@
 -- A record as the code writes it is the event's record. Assumes nothing.
 use mathlib.Core.Path.{_≡_, refl, sym, ap, _∙_}
 use mathlib.Core.Bool.{Bool, true, false}
-use mathlib.Core.List.{List, [], _∷_, _++_, append-assoc, append-nil}
+use mathlib.Core.List.{List, [], _∷_, _++_}
 use Prim.Native.Nat.{ℕ, _+_, _≤_, _<_}
 use native.Mathlib.Omega.{arith}
 use lib.ListN.{length, getD, take, drop, length-append, length-take, drop-of-length-le}
@@ -10,7 +10,7 @@ use Rattle.wire.specs.Form.{bytesOf, countOf}
 use Rattle.wire.specs.declared.part.Load.{Load}
 use Rattle.wire.specs.declared.part.Telegram.{Telegram}
 use Rattle.wire.proofs.Filling.{counted-length}
-use Rattle.station.specs.Events.{Word, owns, taken, failed, free, given, answer, Event, event, freeEvent, tells}
+use Rattle.station.specs.Events.{Word, failed, free, Event, event, freeEvent, tells}
 use Rattle.station.specs.declared.station.Turn.{Turn}
 use Rattle.bus.specs.Bus.{attachedTo}
 use Rattle.bus.specs.Events.{those, linesOf, events}
@@ -106,6 +106,6 @@ pub load-written : (d : Ring) (tag slot a k : ℕ) (xs : List ℕ) (l : Load) {p
 unfolding written
 load-written d tag slot a k xs l {p} {q} {r} h e f g i =
     let n : length xs + (k + 1) ≡ length (xs ++ length (bytesOf l) ∷ bytesOf l) =
-        omega (arith, length-append xs (length (bytesOf l) ∷ bytesOf l), counted-length l h, e) in
+    omega (arith, length-append xs (length (bytesOf l) ∷ bytesOf l), counted-length l h, e) in
     behind (xs ++ countOf l ∷ bytesOf l) (xs ++ length (bytesOf l) ∷ bytesOf l) (f ∙ ap (λ (v : ℕ). begun d tag v slot a) n) (both p xs (countOf l ∷ bytesOf l) g i)
     (ap (λ (v : ℕ). xs ++ v ∷ bytesOf l) (sym (counted-length l h)))

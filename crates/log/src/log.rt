@@ -59,6 +59,7 @@ fn fresh(n: usize) -> Log
 
 impl Log {
     pub const FEWEST: usize = 64;
+
     pub const MOST: usize = 65536;
 
     pub fn set_up(bytes: &[u8]) -> SetUp

@@ -67,7 +67,8 @@ fn given(l: Log, bytes: &mut [u8], slot: u32, station: u8, t: Telegram) -> Log
     ensures { λ r. ⌜ ring (now (bytes .exit)) r ≡ written (ring (now (bytes .entry)) l) (tagOf given) slot station (givenValues t) ⌝ }
 {
     let carried = t.load;
-    let a = begin(l, bytes, 5, 4 + wire::form::count_of(carried), slot, station);
+    let nn = wire::form::count_of(carried);
+    let a = begin(l, bytes, 5, 4 + nn, slot, station);
     let b = ring::put(a, bytes, t.qq);
     let c = ring::put(b, bytes, t.pb);
     let d = ring::put(c, bytes, t.sb);
@@ -79,7 +80,8 @@ fn answer(l: Log, bytes: &mut [u8], slot: u32, station: u8, t: Telegram) -> Log
     ensures { λ r. ⌜ ring (now (bytes .exit)) r ≡ written (ring (now (bytes .entry)) l) (tagOf answer) slot station (answerValues t) ⌝ }
 {
     let carried = t.load;
-    let a = begin(l, bytes, 6, 2 + wire::form::count_of(carried), slot, station);
+    let nn = wire::form::count_of(carried);
+    let a = begin(l, bytes, 6, 2 + nn, slot, station);
     let b = ring::put(a, bytes, t.zz);
     load(b, bytes, carried)
 }

@@ -35,7 +35,7 @@ attached-requires : tie.Need-attached-requires Inv-loop μ-loop Inv-loop2 μ-loo
 attached-requires c κs = search needs
 
 loop-holds : tie.Need-loop-holds Inv-loop μ-loop Inv-loop2 μ-loop2
-loop-holds c = 
+loop-holds c =
     let e = c .attached .ensures in
     (search needs, rw e (attached-fit _), e, search (needs, length-mapped), refl, refl)
 
@@ -55,7 +55,7 @@ loop-less : tie.Need-loop-less Inv-loop μ-loop Inv-loop2 μ-loop2
 loop-less c = omega arith
 
 loop-again : tie.Need-loop-again Inv-loop μ-loop Inv-loop2 μ-loop2
-loop-again c = 
+loop-again c =
     let a = c .before .before .before .before .before .before in
     let b = a .before .before .before .args .t3 in (
       omega arith,
@@ -67,7 +67,7 @@ loop-again c =
     )
 
 loop2-holds : tie.Need-loop2-holds Inv-loop μ-loop Inv-loop2 μ-loop2
-loop2-holds c = 
+loop2-holds c =
     let a = c .before in
     (search needs, a .loop .inv .1, a .loop .inv .2, a .loop .inv .3, refl, refl)
 
@@ -87,7 +87,7 @@ loop2-less : tie.Need-loop2-less Inv-loop μ-loop Inv-loop2 μ-loop2
 loop2-less c = omega arith
 
 loop2-again : tie.Need-loop2-again Inv-loop μ-loop Inv-loop2 μ-loop2
-loop2-again c = 
+loop2-again c =
     let a = c .before .before .before .before .before .before in
     let b = a .before .before .before .before .before .args .t3 in (
       omega arith,
@@ -102,7 +102,7 @@ same-length : tie.Need-same-length Inv-loop μ-loop Inv-loop2 μ-loop2
 same-length c = c .before .loop2 .inv .4 ∙ c .before .before .before .loop .inv .4
 
 returns : tie.Need-returns Inv-loop μ-loop Inv-loop2 μ-loop2
-returns c = 
+returns c =
     let a = c .before .before .before in
     let b = a .before .before .before .args .t3 in
     slot-noted b _ _ (a .before .attached .ensures) (pass-end (b .slot) false (b .turns) _ _ (c .before .before .loop-test .left) (a .loop .inv .5))

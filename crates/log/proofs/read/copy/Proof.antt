@@ -37,10 +37,10 @@ loop-less c = omega arith
 
 loop-again : tie.Need-loop-again Inv-loop μ-loop
 loop-again c = (
-      omega arith,
-      ap (λ (v : List ℕ). length v) (c .before .before .lay .ensures) ∙ length-set (c .before .before .before .before .before .before .loop .out) _ _ ∙ c .before .before .before .before .before .before .loop .inv .1,
-      copied-on _ _ (c .before .before .before .before .before .before .loop .i) _ (c .before .before .before .before .before .loop-test .taken) (c .before .before .before .byte-at .ensures) (c .before .before .lay .ensures) (c .before .before .before .before .before .before .loop .inv .2),
-    )
+  omega arith,
+  ap (λ (v : List ℕ). length v) (c .before .before .lay .ensures) ∙ length-set (c .before .before .before .before .before .before .loop .out) _ _ ∙ c .before .before .before .before .before .before .loop .inv .1,
+  copied-on _ _ (c .before .before .before .before .before .before .loop .i) _ (c .before .before .before .before .before .loop-test .taken) (c .before .before .before .byte-at .ensures) (c .before .before .lay .ensures) (c .before .before .before .before .before .before .loop .inv .2),
+)
 
 same-length : tie.Need-same-length Inv-loop μ-loop
 same-length c = search needs

@@ -41,7 +41,7 @@ same-length c = search needs
 
 returns : tie.Need-returns
 unfolding begun headOf
-returns c = 
+returns c =
     let head = both _ _ _ (both _ _ _ (c .before .before .before .before .before .before .before .before .before .before .before .before .before .before .before .before .before .before .put .ensures) (c .before .before .before .before .before .before .before .before .before .before .before .before .before .before .put2 .ensures)) (c .before .before .before .before .before .before .before .before .before .before .put3 .ensures) in
     rw (← c .before .before .before .before .before .before .before .before .before .before .before .before .before .before .before .before .before .before .before .before .room-for .ensures) (both _ _ _ (both _ _ _ head (c .before .before .before .before .before .before .slot-number .ensures)) (c .before .before .put4 .ensures))
 

@@ -19,7 +19,7 @@ count-of-requires : tie.Need-count-of-requires
 count-of-requires c κs = search needs
 
 add-begin : tie.Need-add-begin
-add-begin c = omega (arith, c .count-of .ensures, count-at-most (c .before .before .before .before .args .t .load))
+add-begin c = omega (arith, c .before .count-of .ensures, count-at-most (c .before .before .before .before .args .t .load))
 
 begin-requires : tie.Need-begin-requires
 begin-requires c κs = search needs
@@ -44,9 +44,9 @@ sixteen : (c : tie.After-carried) → length (c .before .before .args .t .load .
 sixteen c = search needs
 
 returns : tie.Need-returns
-returns c = 
+returns c =
     let a = c .before .before .before .before .before .before .before .before .before .before .before .before .before .before .before .before .before .before .before .before .before .before .before .args in
-    load-written (ring (a .bytes .now) (a .l)) (tagOf given) (a .slot) (a .station) _ (a .t .qq ∷ a .t .pb ∷ a .t .sb ∷ []) (a .t .load) (sixteen (c .before .before .before .before .before .before .before .before .before .before .before .before .before .before .before .before .before .before .before .before .before)) (c .before .before .before .before .before .before .before .before .before .before .before .before .before .before .before .before .before .before .before .count-of .ensures)
+    load-written (ring (a .bytes .now) (a .l)) (tagOf given) (a .slot) (a .station) _ (a .t .qq ∷ a .t .pb ∷ a .t .sb ∷ []) (a .t .load) (sixteen (c .before .before .before .before .before .before .before .before .before .before .before .before .before .before .before .before .before .before .before .before .before)) (c .before .before .before .before .before .before .before .before .before .before .before .before .before .before .before .before .before .before .before .before .count-of .ensures)
     (c .before .before .before .before .before .before .before .before .before .before .before .before .before .before .before .before .before .before .begin .ensures ∙ ap (λ (v : ℕ). begun (ring (a .bytes .now) (a .l)) (tagOf given) v (a .slot) (a .station)) (omega arith))
     (both _ _ _ (both _ _ _ (c .before .before .before .before .before .before .before .before .before .before .before .before .before .before .put .ensures) (c .before .before .before .before .before .before .before .before .before .before .put2 .ensures)) (c .before .before .before .before .before .before .put3 .ensures)) (c .before .before .load .ensures)
 

@@ -46,7 +46,7 @@ loop-less : tie.Need-loop-less Inv-loop μ-loop
 loop-less c = omega arith
 
 loop-again : tie.Need-loop-again Inv-loop μ-loop
-loop-again c = 
+loop-again c =
     let a = c .before .before .before .before .before in
     let l = a .before .before .before .before .before .before .before .before .args .load .bytes in
     let n = a .before .before .before .before .before .before .count-of .result in
@@ -64,7 +64,7 @@ same-length : tie.Need-same-length Inv-loop μ-loop
 same-length c = search needs
 
 returns : tie.Need-returns Inv-loop μ-loop
-returns c = 
+returns c =
     let a = c .before in
     let o = a .before .before .before .before .before .before .before .before .args in
     let d = ring (o .bytes .now) (o .l) in

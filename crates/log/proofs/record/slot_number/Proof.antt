@@ -34,7 +34,7 @@ same-length c = search needs
 
 returns : tie.Need-returns
 unfolding slotBytes
-returns c = 
+returns c =
     let d = both _ _ _ (c .before .before .before .before .before .before .before .before .before .before .before .before .before .before .put .ensures) (c .before .before .before .before .before .before .before .before .before .before .put2 .ensures) in
     both _ _ _ (both _ _ _ d (c .before .before .before .before .before .before .put3 .ensures)) (c .before .before .put4 .ensures)
 

@@ -15,9 +15,10 @@ returns c = simp (eq-eqb _ _ (c .if1 .taken))
 returns-2 : tie.Need-returns-2
 unfolding isShort
 returns-2 c =
-    simp
-    (c .less .ensures,
-    ne-eqb _ _ (c .before .if1 .left))
+    simp (
+      c .less .ensures,
+      ne-eqb _ _ (c .before .if1 .left),
+    )
 
 pub is-short-spec : {M : Type 1} → statement M
 is-short-spec = tie.close (tie.spec less-requires returns returns-2)

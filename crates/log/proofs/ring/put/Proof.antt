@@ -20,18 +20,20 @@ same-length c = search needs
 returns : tie.Need-returns
 unfolding pushed pushedOne
 returns c =
-    simp
-    (lt-ltb _ _ (c .if2 .taken),
-    lt-ltb _ _ (c .before .if1 .taken),
-    ← c .before .before .before .place .ensures)
+    simp (
+      lt-ltb _ _ (c .if2 .taken),
+      lt-ltb _ _ (c .before .if1 .taken),
+      ← c .before .before .before .place .ensures,
+    )
 
 returns-2 : tie.Need-returns-2
 unfolding pushed pushedOne
 returns-2 c =
-    simp
-    (le-ltb _ _ (c .if2 .left),
-    lt-ltb _ _ (c .before .if1 .taken),
-    ← c .before .before .before .place .ensures)
+    simp (
+      le-ltb _ _ (c .if2 .left),
+      lt-ltb _ _ (c .before .if1 .taken),
+      ← c .before .before .before .place .ensures,
+    )
 
 returns-3 : tie.Need-returns-3
 unfolding pushed pushedOne

@@ -31,10 +31,11 @@ at-most-requires c κs = search needs
 returns : tie.Need-returns
 unfolding sizeOfOldest
 returns c =
-    simp
-    (c .at-most .ensures,
-    c .before .byte-at2 .ensures,
-    c .before .before .byte-at .ensures)
+    simp (
+      c .at-most .ensures,
+      c .before .byte-at2 .ensures,
+      c .before .before .byte-at .ensures,
+    )
 
 pub size-of-oldest-spec : {M : Type 1} → statement M
 size-of-oldest-spec =

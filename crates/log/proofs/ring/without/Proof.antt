@@ -13,9 +13,10 @@ less-requires c κs = search needs
 returns : tie.Need-returns
 unfolding without
 returns c =
-    simp
-    (c .less .ensures,
-    c .before .place .ensures)
+    simp (
+      c .less .ensures,
+      c .before .place .ensures,
+    )
 
 pub without-spec : {M : Type 1} → statement M
 without-spec = tie.close (tie.spec place-requires less-requires returns)
