@@ -1,5 +1,6 @@
 // The held records as lines, as many at a time as a lent buffer has room for.
 ghost use mathlib.Core.Path.{_≡_};
+ghost use Prim.Native.Nat.{_+_, _*_};
 ghost use lib.ListN.{drop};
 ghost use Rattle.scenario.specs.Lines.{hexesText};
 ghost use Rattle.scenario.specs.Pen.{pen, penned};
@@ -17,13 +18,14 @@ pub struct Filled {
     pub used: usize,
 }
 
-fn wide(b: u8) -> usize
-    ensures { λ r. ⌜ r ≡ b ⌝ }
+// Tag, two bytes of length and as many as they say.
+fn sized(high: u8, low: u8) -> usize
+    ensures { λ r. ⌜ r ≡ 3 + 256 * high + low ⌝ }
 {
-    b as usize
+    3 + 256 * (high as usize) + (low as usize)
 }
 
-// How many bytes the record at a place has: tag, two bytes of length and as many as they say, but never more than are left.
+// How many bytes the record at a place has, but never more than are left.
 fn size_at(held: &[u8], at: usize) -> usize
     ensures { λ r. ⌜ r ≡ sizeOf (drop at (now (held .entry))) ⌝ }
 {
@@ -33,9 +35,7 @@ fn size_at(held: &[u8], at: usize) -> usize
         if left < 3 {
             left
         } else {
-            let high = wide(held[at + 1]);
-            let low = wide(held[at + 2]);
-            laws::at_most(3 + 256 * high + low, left)
+            laws::at_most(sized(held[at + 1], held[at + 2]), left)
         }
     } else {
         0
@@ -51,24 +51,24 @@ fn digits(out: &mut [u8; ROOM], at: usize, b: u8) -> usize
 }
 
 // The bytes behind the first, each with a blank before it.
-fn others(out: &mut [u8; ROOM], at: usize, record: &[u8]) -> usize
-    ensures { λ r. ⌜ pen (now (out .exit)) r ≡ penned (pen (now (out .entry)) at) (hexesText (drop 1 (now (record .entry)))) ⌝ }
+fn others(out: &mut [u8; ROOM], at: usize, rec: &[u8]) -> usize
+    ensures { λ r. ⌜ pen (now (out .exit)) r ≡ penned (pen (now (out .entry)) at) (hexesText (drop 1 (now (rec .entry)))) ⌝ }
 {
     let mut to = at;
     let mut i: usize = 1;
-    while i < record.len() {
-        to = pen::hex(out, to, record[i]);
+    while i < rec.len() {
+        to = pen::hex(out, to, rec[i]);
         i += 1;
     }
     to
 }
 
-fn line(out: &mut [u8; ROOM], at: usize, record: &[u8]) -> usize
-    ensures { λ r. ⌜ pen (now (out .exit)) r ≡ penned (pen (now (out .entry)) at) (recordLine (now (record .entry))) ⌝ }
+fn line(out: &mut [u8; ROOM], at: usize, rec: &[u8]) -> usize
+    ensures { λ r. ⌜ pen (now (out .exit)) r ≡ penned (pen (now (out .entry)) at) (recordLine (now (rec .entry))) ⌝ }
 {
-    if 0 < record.len() {
-        let first = digits(out, at, record[0]);
-        let end = others(out, first, record);
+    if 0 < rec.len() {
+        let first = digits(out, at, rec[0]);
+        let end = others(out, first, rec);
         pen::word(out, end, b"\n")
     } else {
         pen::word(out, at, b"\n")
