@@ -3,22 +3,19 @@ use libc::STDOUT_FILENO;
 
 fn main() {
     let n = os::arg_count();
-    let mut i: usize = 2;
-    while i < n {
-        log_named(i);
-        i += 2;
+    let mut i: usize = 0;
+    while i < n / 2 {
+        log_named(2 * i + 1, 2 * i + 2);
+        i += 1;
     }
 }
 
-// The file name is the i-th argument, the length the one before it.
-fn log_named(i: usize) {
-    if i == 0 {
-        return;
-    }
+// The arguments that say the length and the file.
+fn log_named(length: usize, file: usize) {
     let mut word = io::buffer();
     let mut path = io::buffer();
-    let w = os::arg(i - 1, &mut word);
-    let p = os::arg(i, &mut path);
+    let w = os::arg(length, &mut word);
+    let p = os::arg(file, &mut path);
     io::write_all(STDOUT_FILENO, b"== ");
     io::write_all(STDOUT_FILENO, &word[..w]);
     io::write_all(STDOUT_FILENO, b" ");
