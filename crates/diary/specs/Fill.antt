@@ -1,7 +1,8 @@
 -- The lines of the held records, as many at a time as a lent buffer has room for. Assumes nothing.
+use mathlib.Core.Path.{_≡_}
 use mathlib.Core.Bool.{cond}
-use mathlib.Core.List.{List}
-use Prim.Native.Nat.{ℕ, zero, suc, _+_, _-_}
+use mathlib.Core.List.{List, [], _++_}
+use Prim.Native.Nat.{ℕ, zero, suc, _+_, _-_, _≤_, _<_}
 use lib.Dec.{ltb}
 use lib.ListN.{length, take, drop}
 use Rattle.scenario.specs.Pen.{Pen, pen, penned, room}
@@ -30,3 +31,9 @@ filledFrom (suc k) held at q =
 -- one fill of a buffer, from a place on
 unfoldable pub filled : List ℕ → ℕ → List ℕ → Fill
 filled held at buffer = filledFrom (length held - at) held at (pen buffer 0)
+
+-- fills one after the other from a place on until nothing is left: how many there are, and the bytes of all of them; each gets on
+pub data Prints (held : List ℕ) : ℕ → List ℕ → ℕ → List ℕ → Type 0 where
+  finished : {at : ℕ} {buffer : List ℕ} → length held ≤ at → Prints held at buffer 0 []
+  after : {at : ℕ} {f : Fill} {buffer rest : List ℕ} {n : ℕ} → at < length held → filled held at buffer ≡ f → at < f .next
+      → Prints held (f .next) (f .pen .page) n rest → Prints held at buffer (suc n) (take (f .pen .at) (f .pen .page) ++ rest)

@@ -3,3 +3,4 @@ pub mod Follow
 pub mod Length
 pub mod Lines
 pub mod Output
+pub mod Writes

@@ -42,7 +42,8 @@ same-length c = search needs
 
 returns : tie.Need-returns Inv-loop μ-loop
 returns c =
-    follows-end (c .before .before .before .before .before .before .before .before .before .loop .inv .2) (sym (c .before .before .before .before .before .before .before .before .onward .ensures)) (sym (c .before .is-end .ensures) ∙ c .if1 .taken) (c .before .before .before .before .noted .ensures)
+    let o = c .before .before .before .before .before .before .before .before in
+    follows-end (o .before .loop .inv .2) (sym (o .onward .ensures)) (sym (c .before .is-end .ensures) ∙ c .if1 .taken) (c .before .before .before .before .noted .ensures)
 
 loop-less : tie.Need-loop-less Inv-loop μ-loop
 loop-less c =
@@ -53,9 +54,12 @@ loop-less c =
 
 loop-again : tie.Need-loop-again Inv-loop μ-loop
 loop-again c =
-    let l = c .before .before .before .before .before .before .before .before .before in
-    let m = c .before .before .before .before .noted .ensures in
-    (l .loop .inv .0, search needs, follows-on (l .loop .inv .0) (l .loop .inv .2) (sym (c .before .before .before .before .before .before .before .before .onward .ensures)) (sym (c .before .is-end .ensures) ∙ c .if1 .left) m)
+    let o = c .before .before .before .before .before .before .before .before in
+    let l = o .before in (
+      l .loop .inv .0,
+      search needs,
+      follows-on (l .loop .inv .0) (l .loop .inv .2) (sym (o .onward .ensures)) (sym (c .before .is-end .ensures) ∙ c .if1 .left) (c .before .before .before .before .noted .ensures),
+    )
 
 pub follow-spec : {M : Type 1} → statement M
 follow-spec =
