@@ -5,15 +5,15 @@ use scenario::fill::Printing;
 use scenario::pen::ROOM;
 
 // One byte more than a scenario may have tells a file that is too long.
-const INPUT: usize = 65537;
+pub const INPUT: usize = 65537;
 
-enum Got {
+pub enum Got {
     Bytes(usize),
     Failed,
 }
 
 // Reads until the buffer is full or the input ends.
-fn read(fd: i32, buffer: &mut [u8]) -> Got {
+pub fn read(fd: i32, buffer: &mut [u8]) -> Got {
     let mut got: usize = 0;
     while got < buffer.len() {
         let more = libc::read(fd, &mut buffer[got..]);
@@ -30,7 +30,7 @@ fn read(fd: i32, buffer: &mut [u8]) -> Got {
 }
 
 // Writes the first bytes of a buffer.
-fn written(out: [u8; ROOM], used: usize) -> bool {
+pub fn written(out: [u8; ROOM], used: usize) -> bool {
     if used <= ROOM {
         io::write_all(STDOUT_FILENO, &out[..used])
     } else {

@@ -42,7 +42,7 @@ data Fills (s buffer : List ℕ) (f : Fill) : List ℕ → Type 0 where
   part : {p : Place} {b : Bus} {l : List Now} (t : List ℕ) → length t ≤ room → room - pageRoom < length t
       → f ≡ filling (printed Fields p b) (penned (pen buffer 0) t) → Gives false s b p l → Every OnPage l → Fills s buffer f (t ++ momentsText l)
 
-place-is : (buffer t : List ℕ) → length buffer ≡ room → length t ≤ room → penned (pen buffer 0) t .at ≡ length t
+pub place-is : (buffer t : List ℕ) → length buffer ≡ room → length t ≤ room → penned (pen buffer 0) t .at ≡ length t
 place-is buffer t e h = ap (λ (q : Pen). q .at) (written-whole buffer t e h)
 
 module _ (s buffer : List ℕ) (bytes : Bytes s) (whole : length buffer ≡ room) where
@@ -92,11 +92,11 @@ module _ (s buffer : List ℕ) (bytes : Bytes s) (whole : length buffer ≡ room
 
 -- ---- all fills
 
-written-bytes : (buffer t : List ℕ) → length buffer ≡ room → length t ≤ room
+pub written-bytes : (buffer t : List ℕ) → length buffer ≡ room → length t ≤ room
     → take (penned (pen buffer 0) t .at) (penned (pen buffer 0) t .page) ≡ t
 written-bytes buffer t e h = rw (written-whole buffer t e h) (take-append-seam t (drop (length t) buffer))
 
-same-length : (buffer t : List ℕ) → length buffer ≡ room → length t ≤ room → length (penned (pen buffer 0) t .page) ≡ room
+pub same-length : (buffer t : List ℕ) → length buffer ≡ room → length t ≤ room → length (penned (pen buffer 0) t .page) ≡ room
 same-length buffer t e h =
     rw (written-whole buffer t e h) (omega (arith, length-append t (drop (length t) buffer), length-drop (length t) buffer))
 

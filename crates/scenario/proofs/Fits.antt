@@ -71,7 +71,7 @@ hex-length : (b : ℕ) → length (hexText b) ≡ 3
 unfolding hexText
 hex-length b = refl
 
-hexes-length : (bs : List ℕ) → length (hexesText bs) ≡ 3 * length bs
+pub hexes-length : (bs : List ℕ) → length (hexesText bs) ≡ 3 * length bs
 unfolding hexesText
 hexes-length [] = refl
 hexes-length (b ∷ bs) = omega (arith, length-append (hexText b) (hexesText bs), hex-length b, hexes-length bs)
@@ -198,7 +198,7 @@ refused-most m n =
       decimal-most n,
     )
 
-form-most : (f : Form) → length (formText f) ≤ 40
+pub form-most : (f : Form) → length (formText f) ≤ 40
 form-most Good = omega arith
 form-most (BadField at) = refused-most 14 at
 form-most TooLong = refused-most 15 65536

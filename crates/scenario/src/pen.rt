@@ -10,7 +10,7 @@ pub const PAGE: usize = 2560;
 pub const ROOM: usize = 65536;
 
 // One byte more; a full buffer stays as it is.
-fn put(page: &mut [u8; ROOM], at: usize, b: u8) -> usize
+pub fn put(page: &mut [u8; ROOM], at: usize, b: u8) -> usize
     ensures { λ r. ⌜ pen (now (page .exit)) r ≡ penned (pen (now (page .entry)) at) (b ∷ []) ⌝ }
 {
     if at < ROOM {
@@ -21,7 +21,7 @@ fn put(page: &mut [u8; ROOM], at: usize, b: u8) -> usize
     }
 }
 
-pub(crate) fn word(page: &mut [u8; ROOM], at: usize, s: &[u8]) -> usize
+pub fn word(page: &mut [u8; ROOM], at: usize, s: &[u8]) -> usize
     ensures { λ r. ⌜ pen (now (page .exit)) r ≡ penned (pen (now (page .entry)) at) (now (s .entry)) ⌝ }
 {
     let mut to = at;
@@ -33,7 +33,7 @@ pub(crate) fn word(page: &mut [u8; ROOM], at: usize, s: &[u8]) -> usize
     to
 }
 
-fn hex_digit(d: u8) -> u8
+pub fn hex_digit(d: u8) -> u8
     ensures { λ r. ⌜ r ≡ hexDigit d ⌝ }
 {
     let low = d % 16;
@@ -41,7 +41,7 @@ fn hex_digit(d: u8) -> u8
 }
 
 // A space and a byte.
-pub(crate) fn hex(page: &mut [u8; ROOM], at: usize, b: u8) -> usize
+pub fn hex(page: &mut [u8; ROOM], at: usize, b: u8) -> usize
     ensures { λ r. ⌜ pen (now (page .exit)) r ≡ penned (pen (now (page .entry)) at) (hexText b) ⌝ }
 {
     let to = put(page, at, 32);

@@ -1,0 +1,9 @@
+pub mod FillsAreLines
+pub mod Filling
+pub mod Following
+pub mod FollowsTheMoments
+pub mod Lined
+pub mod LinesOfRecords
+pub mod Reading
+pub mod Sizes
+pub mod WirelogPrints
