@@ -61,10 +61,6 @@ read-whole d ls into s e h =
     let count = held-count {d = d} (record { sound = s; room = refl; bytes = e }) in
     reads d ls into s e ∙ ap (λ (v : List Line). readWhole v into) (all-fit (length into) ls (omega (arith, count)))
 
-every-behind : {P : Line → Type 0} (xs : List Line) {ys : List Line} → Every P (xs ++ ys) → Every P ys
-every-behind [] ps = ps
-every-behind (x ∷ xs) (next p ps) = every-behind xs ps
-
 -- of the lines that are held none has more than 28 bytes
 held-short : (n : ℕ) (bs : List Bus) → AllRoomy bs → Every Short28 (longestRun n (allLines bs))
 held-short n bs rs =

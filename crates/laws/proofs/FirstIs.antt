@@ -22,6 +22,10 @@ pub every-append : {A : Type 0} {P : A → Type 0} {l r : List A} → Every P l 
 every-append none rs = rs
 every-append (next q qs) rs = next q (every-append qs rs)
 
+pub every-behind : {A : Type 0} {P : A → Type 0} (l : List A) {r : List A} → Every P (l ++ r) → Every P r
+every-behind [] qs = qs
+every-behind (a ∷ l) (next q qs) = every-behind l qs
+
 -- the place where a search came to
 abbrev pub placeOf : Found → ℕ
 placeOf (At i) = i

@@ -5,7 +5,7 @@ use mathlib.Core.Bool.{Bool, true, false, cond}
 use mathlib.Core.List.{List, [], _∷_, _++_, map}
 use Prim.Native.Nat.{ℕ}
 use lib.ListN.{length}
-use Rattle.laws.proofs.FirstIs.{Every, none, every-append}
+use Rattle.laws.proofs.FirstIs.{Every, none, every-append, every-behind}
 use Rattle.bus.specs.Events.{events}
 use Rattle.bus.specs.declared.bus.Bus.{Bus}
 use Rattle.promises.specs.Calls.{ByteUses, Reachable}
@@ -17,7 +17,7 @@ use Rattle.log.specs.ReadBack.{readEntries}
 use Rattle.log.specs.Record.{Line}
 use Rattle.log.specs.Ring.{Ring, ring, bytesFrom, heldBytes}
 use Rattle.log.specs.declared.log.SetUp.the-variants.{Ready, BadLength}
-use Rattle.log.proofs.DiaryReadsBack.{events-numbered, every-behind}
+use Rattle.log.proofs.DiaryReadsBack.{events-numbered}
 use Rattle.log.proofs.HoldsTheLatest.{HoldsLatest, slot-noted}
 use Rattle.log.proofs.Limits.{sound-fresh, sound-emptied, own-buffer}
 use Rattle.log.proofs.Longest.{goes-oldest-first}

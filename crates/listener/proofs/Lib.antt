@@ -1,3 +1,4 @@
 pub mod Always
 pub mod OnlyListens
+pub mod Prints
 pub mod Roomy

@@ -4,7 +4,7 @@ use mathlib.Core.Bool.{true}
 use mathlib.Core.List.{List, [], _∷_, _++_, map}
 use Prim.Native.Nat.{ℕ, _^_, _<_}
 use lib.ListN.{length}
-use Rattle.laws.proofs.FirstIs.{Every, none, next, every-append}
+use Rattle.laws.proofs.FirstIs.{Every, none, next, every-append, every-behind}
 use Rattle.station.specs.Events.{Event}
 use Rattle.bus.specs.Events.{events}
 use Rattle.bus.specs.declared.bus.Bus.{Bus}
@@ -30,10 +30,6 @@ lines-numbered : {bs : List Bus} → Every Slot32 bs → Every Numbered (allLine
 unfolding allLines
 lines-numbered none = none
 lines-numbered (next {a = b} h hs) = every-append (events-numbered (b .slot) (events b) h) (lines-numbered hs)
-
-pub every-behind : (xs : List Line) {ys : List Line} → Every Numbered (xs ++ ys) → Every Numbered ys
-every-behind [] ns = ns
-every-behind (x ∷ xs) (next n ns) = every-behind xs ns
 
 -- the longest run of latest lines, from the log's bytes alone
 pub diary-reads-back : (bytes : List ℕ) (bs : List Bus) → withinLimits (length bytes) ≡ true → AllRoomy bs → Every Slot32 bs
