@@ -1,6 +1,6 @@
 -- The bytes of all fills, one after the other until no record is left, are the lines of the records. Assumes nothing.
 use mathlib.Core.Path.{_≡_, refl, sym, ap, subst, _∙_}
-use mathlib.Core.Bool.{Bool, true, false, cond}
+use mathlib.Core.Bool.{Bool, true, false}
 use mathlib.Core.List.{List, [], _∷_, _++_, append-assoc, append-nil}
 use Prim.Native.Nat.{ℕ, zero, suc, _+_, _-_, _*_, _≤_, _<_}
 use native.Mathlib.Omega.{arith}
@@ -8,7 +8,7 @@ use borrow.Author.Tests.{lt-ltb, le-ltb, ltb-true, ltb-false}
 use lib.Dec.{ltb}
 use lib.ListN.{length, take, drop, length-append, length-drop}
 use lib.Seq.{drop-drop}
-use Rattle.laws.proofs.FirstIs.{Every, none, next}
+use Rattle.laws.proofs.FirstIs.{Every, next}
 use Rattle.scenario.specs.Pen.{Pen, pen, penned, room}
 use Rattle.scenario.proofs.Fills.{place-is, written-bytes, same-length}
 use Rattle.scenario.proofs.Written.{penned-append}

@@ -1,6 +1,6 @@
 -- A scenario followed with a log: noted is what told somebody something, of all its moments, one after the other. Assumes nothing.
-use mathlib.Core.Path.{_≡_, refl, sym, ap, _∙_}
-use mathlib.Core.Bool.{Bool, true, false, cond}
+use mathlib.Core.Path.{_≡_, refl, ap, _∙_}
+use mathlib.Core.Bool.{false, cond}
 use mathlib.Core.List.{List, [], _∷_}
 use Prim.Native.Nat.{ℕ, zero, suc, _<_}
 use native.Mathlib.Omega.{arith}
@@ -8,7 +8,7 @@ use Rattle.bus.specs.declared.bus.Bus.{Bus}
 use Rattle.walk.specs.Field.{Bytes}
 use Rattle.walk.specs.Form.{formOf}
 use Rattle.walk.specs.Moments.{Now, moments, isPassed, withoutEnds, Gives, last, one}
-use Rattle.walk.specs.Walk.{before, isEnd, toGo}
+use Rattle.walk.specs.Walk.{before, toGo}
 use Rattle.walk.specs.declared.form.Form.the-variants.{Good}
 use Rattle.walk.specs.declared.walk.Moment.{Moment}
 use Rattle.walk.specs.declared.walk.Moment.the-variants.{Called, Told, Passed, Ended}

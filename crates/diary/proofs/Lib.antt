@@ -1,3 +1,4 @@
+pub mod AnyLength
 pub mod FillsAreLines
 pub mod Filling
 pub mod Following

@@ -1,5 +1,5 @@
 -- Records one behind the other, taken apart by their own lengths, give a line for each. Assumes nothing.
-use mathlib.Core.Path.{_≡_, refl, sym, ap, _∙_}
+use mathlib.Core.Path.{_≡_, refl, ap, _∙_}
 use mathlib.Core.List.{List, [], _∷_, _++_}
 use Prim.Native.Nat.{ℕ, zero, suc, _+_, _*_, _/_, _%_, _≤_, _<_}
 use native.Mathlib.Omega.{arith}
@@ -12,7 +12,6 @@ use Rattle.scenario.proofs.Fits.{hexes-length}
 use Rattle.log.specs.Latest.{joined}
 use Rattle.log.specs.Record.{Line, valueOf, recordOf}
 use Rattle.log.proofs.Formed.{length-record}
-use Rattle.log.proofs.Longest.{length-first}
 use Rattle.log.proofs.OldestGoWhole.{lines-at-most}
 use Rattle.diary.specs.Lines.{digitsText, recordLine, sizeOf, linesFrom, linesText}
 use Rattle.diary.specs.Output.{linesOf}

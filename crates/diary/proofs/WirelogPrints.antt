@@ -1,5 +1,5 @@
 -- What `wirelog` is handed to write is exactly its defined output, for every length and every scenario. Assumes nothing.
-use mathlib.Core.Path.{_≡_, refl, sym, ap, subst, _∙_}
+use mathlib.Core.Path.{_≡_, refl, ap, subst, _∙_}
 use mathlib.Core.Bool.{Bool, true, false, cond}
 use mathlib.Core.List.{List, [], _∷_, _++_}
 use Prim.Native.Nat.{ℕ, _-_, _≤_}
@@ -7,7 +7,7 @@ use native.Mathlib.Omega.{arith}
 use borrow.Author.Tests.{le-leb}
 use lib.ListN.{length, take, drop, length-append}
 use lib.Seq.{take-append-seam}
-use Rattle.laws.proofs.FirstIs.{Every, none, next}
+use Rattle.laws.proofs.FirstIs.{Every, every-behind}
 use Rattle.bus.specs.declared.bus.Bus.{Bus}
 use Rattle.walk.specs.Field.{Bytes}
 use Rattle.walk.specs.Form.{formOf}
@@ -23,12 +23,10 @@ use Rattle.log.specs.Ring.{Ring, ring, heldBytes}
 use Rattle.log.specs.Roomy.{AllRoomy}
 use Rattle.log.specs.Sound.{Sound}
 use Rattle.log.specs.declared.log.Said.the-variants.{Done}
-use Rattle.log.specs.declared.log.SetUp.{SetUp}
 use Rattle.log.specs.declared.log.SetUp.the-variants.{Ready, BadLength}
 use Rattle.log.proofs.Formed.{Short28}
 use Rattle.log.proofs.HoldsTheLatest.{logAfter, log-holds-the-latest, log-stays-sound, longest-of-all}
-use Rattle.log.proofs.Holds.{held-count}
-use Rattle.log.proofs.Longest.{length-first, goes-oldest-first}
+use Rattle.log.proofs.Longest.{length-first, goes-oldest-first, run-fits}
 use Rattle.log.proofs.ReadsWhole.{reads}
 use Rattle.scenario.specs.Lines.{refusedText, newline, formText}
 use Rattle.scenario.specs.Pen.{room, pen, penned, decimalText}
@@ -36,7 +34,7 @@ use Rattle.scenario.proofs.Fills.{written-bytes}
 use Rattle.scenario.proofs.Fits.{decimal-most, form-most}
 use Rattle.diary.specs.Follow.{followed, toldBuses}
 use Rattle.diary.specs.Lines.{linesText}
-use Rattle.diary.specs.Output.{refused16, openingText, loggedOf, wirelogOutput}
+use Rattle.diary.specs.Output.{refused16, openingText, heldLines, loggedOf, wirelogOutput}
 use Rattle.diary.specs.Writes.{isPlayed, Writes, refused, logged}
 use Rattle.diary.proofs.FillsAreLines.{fills-are-lines}
 use Rattle.diary.proofs.FollowsTheMoments.{follows-the-moments}
@@ -55,11 +53,10 @@ all-fit n (l ∷ ls) h =
 abbrev readWhole : List Line → List ℕ → Copying
 readWhole ls into = copying (joined ls ++ drop (length (joined ls)) into) (record { used = length (joined ls); said = Done })
 
-read-whole : (d : Ring) (ls : List Line) (into : List ℕ) → Sound d → heldBytes d ≡ joined ls → d .log .held ≤ length into
+read-whole : (d : Ring) (ls : List Line) (into : List ℕ) → Sound d → heldBytes d ≡ joined ls → length (joined ls) ≤ length into
     → readInto d into ≡ readWhole ls into
 read-whole d ls into s e h =
-    let count = held-count {d = d} (record { sound = s; room = refl; bytes = e }) in
-    reads d ls into s e ∙ ap (λ (v : List Line). readWhole v into) (all-fit (length into) ls (omega (arith, count)))
+    reads d ls into s e ∙ ap (λ (v : List Line). readWhole v into) (all-fit (length into) ls h)
 
 -- of the lines that are held none has more than 28 bytes
 held-short : (n : ℕ) (bs : List Bus) → AllRoomy bs → Every Short28 (longestRun n (allLines bs))
@@ -73,8 +70,8 @@ abbrev logOf : List ℕ → List ℕ → Ring
 logOf bytes s = followed (ring bytes (freshFor (length bytes))) s
 
 module _ (bytes s into buffer : List ℕ) (all : Bytes s) (whole : length buffer ≡ room) (rs : AllRoomy (toldBuses (moments s))) where
-  ls : List Line
-  ls = longestRun (length bytes) (allLines (toldBuses (moments s)))
+  abbrev ls : List Line
+  ls = heldLines (length bytes) s
 
   ready : withinLimits (length bytes) ≡ true → setUpFor (length bytes) ≡ Ready (freshFor (length bytes))
   unfolding setUpFor
@@ -85,9 +82,8 @@ module _ (bytes s into buffer : List ℕ) (all : Bytes s) (whole : length buffer
   refuses w = simp w
 
   -- played to its end
-  plays : withinLimits (length bytes) ≡ true → formOf s ≡ Good → logOf bytes s .log .held ≤ length into
+  plays : withinLimits (length bytes) ≡ true → formOf s ≡ Good → length (joined ls) ≤ length into
       → Writes bytes s into buffer (loggedOf Good (length bytes) s)
-  unfolding ls
   plays w g h =
       let bs = toldBuses (moments s) in
       let same : logOf bytes s ≡ logAfter bytes bs = follows-the-moments s (ring bytes (freshFor (length bytes))) all g in
@@ -108,21 +104,26 @@ module _ (bytes s into buffer : List ℕ) (all : Bytes s) (whole : length buffer
   refused-most : length refused16 ≤ 40
   refused-most = omega (arith, length-append (refusedText ++ decimalText 16) newline, length-append refusedText (decimalText 16), decimal-most 16)
 
-  by-form : (f : Form) → formOf s ≡ f → withinLimits (length bytes) ≡ true → logOf bytes s .log .held ≤ length into
+  by-form : (f : Form) → formOf s ≡ f → withinLimits (length bytes) ≡ true → length (joined ls) ≤ length into
       → Writes bytes s into buffer (loggedOf f (length bytes) s)
   by-form Good g w h = plays w g h
   by-form (BadField at) g w h = opens (formText (BadField at)) (simp (ready w, g)) (simp (ready w, g)) (form-most (BadField at))
   by-form TooLong g w h = opens (formText TooLong) (simp (ready w, g)) (simp (ready w, g)) (form-most TooLong)
 
-  by-length : (t : Bool) → withinLimits (length bytes) ≡ t → logOf bytes s .log .held ≤ length into
+  by-length : (t : Bool) → withinLimits (length bytes) ≡ t → length (joined ls) ≤ length into
       → Writes bytes s into buffer (cond t (loggedOf (formOf s) (length bytes) s) refused16)
   by-length true w h = by-form (formOf s) refl w h
   by-length false w h = opens refused16 (simp (refuses w)) (simp (refuses w)) refused-most
 
 -- with any buffer for the log, any to fill, and one to read into that has room for what the log holds
 pub wirelog-prints : (bytes s into buffer : List ℕ) → Bytes s → length buffer ≡ room → AllRoomy (toldBuses (moments s))
-    → followed (ring bytes (freshFor (length bytes))) s .log .held ≤ length into
-    → Writes bytes s into buffer (wirelogOutput (length bytes) s)
+    → length (joined (heldLines (length bytes) s)) ≤ length into → Writes bytes s into buffer (wirelogOutput (length bytes) s)
 unfolding wirelogOutput
 wirelog-prints bytes s into buffer all whole rs h =
     by-length bytes s into buffer all whole rs (withinLimits (length bytes)) refl h
+
+-- one that is as long as the log's has it
+pub wirelog-prints-whole : (bytes s into buffer : List ℕ) → Bytes s → length buffer ≡ room → AllRoomy (toldBuses (moments s))
+    → length bytes ≤ length into → Writes bytes s into buffer (wirelogOutput (length bytes) s)
+wirelog-prints-whole bytes s into buffer all whole rs h =
+    wirelog-prints bytes s into buffer all whole rs (omega (arith, run-fits (length bytes) (allLines (toldBuses (moments s)))))

@@ -30,9 +30,13 @@ unfoldable pub linesOf : List Line → List ℕ
 linesOf [] = []
 linesOf (l ∷ ls) = recordLine (recordOf l) ++ linesOf ls
 
--- the latest records that fit, or the line of a bad form
+-- the lines that a log of so many bytes holds at the scenario's end: of all that it told, the latest that fit
+abbrev pub heldLines : ℕ → List ℕ → List Line
+heldLines n s = longestRun n (allLines (toldBuses (moments s)))
+
+-- their records, or the line of a bad form
 abbrev pub loggedOf : Form → ℕ → List ℕ → List ℕ
-loggedOf Good n s = linesOf (longestRun n (allLines (toldBuses (moments s))))
+loggedOf Good n s = linesOf (heldLines n s)
 loggedOf (BadField at) n s = formText (BadField at)
 loggedOf TooLong n s = formText TooLong
 

@@ -63,6 +63,7 @@ fn others(out: &mut [u8; ROOM], at: usize, rec: &[u8]) -> usize
     to
 }
 
+// A record's bytes, and a line feed.
 fn line(out: &mut [u8; ROOM], at: usize, rec: &[u8]) -> usize
     ensures { λ r. ⌜ pen (now (out .exit)) r ≡ penned (pen (now (out .entry)) at) (recordLine (now (rec .entry))) ⌝ }
 {

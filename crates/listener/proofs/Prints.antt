@@ -1,13 +1,13 @@
 -- What `wirelog` is handed to write is exactly its defined output, for every length, every scenario and all buffers lent. Assumes nothing.
 use mathlib.Core.Path.{_≡_}
-use mathlib.Core.List.{List, [], _∷_}
+use mathlib.Core.List.{List}
 use Prim.Native.Nat.{ℕ, _≤_}
 use lib.ListN.{length}
 use Rattle.laws.proofs.FirstIs as every
 use Rattle.laws.proofs.FirstIs.{Every}
 use Rattle.bus.specs.declared.bus.Bus.{Bus}
 use Rattle.walk.specs.Field.{Bytes}
-use Rattle.walk.specs.Moments.{Now, moments}
+use Rattle.walk.specs.Moments.{Now}
 use Rattle.walk.specs.declared.walk.Moment.{Moment}
 use Rattle.walk.specs.declared.walk.Moment.the-variants.{Called, Told, Passed, Ended}
 use Rattle.log.specs.Roomy.{AllRoomy, none, next}

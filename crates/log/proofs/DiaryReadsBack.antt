@@ -1,7 +1,7 @@
 -- What the log holds reads back as the latest lines of the slots noted, oldest first. Assumes nothing.
 use mathlib.Core.Path.{_≡_, ap, subst, _∙_}
 use mathlib.Core.Bool.{true}
-use mathlib.Core.List.{List, [], _∷_, _++_, map}
+use mathlib.Core.List.{List, [], _∷_, map}
 use Prim.Native.Nat.{ℕ, _^_, _<_}
 use lib.ListN.{length}
 use Rattle.laws.proofs.FirstIs.{Every, none, next, every-append, every-behind}

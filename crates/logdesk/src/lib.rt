@@ -20,6 +20,7 @@ fn wrote(out: [u8; ROOM], used: usize) -> bool {
     }
 }
 
+// The line of what is refused, alone.
 fn refuse(s: SetUp, f: Form) {
     let mut out = [0u8; ROOM];
     let used = diary::opening::opening(&mut out, s, f);
@@ -46,12 +47,14 @@ fn print_first(held: [u8; PAST], n: usize) {
     }
 }
 
+// Everything that the log holds: no log has more than the buffer it is read into.
 fn print_log(l: Log, bytes: &[u8]) {
     let mut held = [0u8; PAST];
     let c = l.read(bytes, &mut held);
     print_first(held, c.used);
 }
 
+// A scenario that is one is followed to its end.
 fn run(l: Log, bytes: &mut [u8], s: &[u8]) {
     let f = walk::form::form_of(s);
     match f {
@@ -88,6 +91,7 @@ fn play_in(bytes: &mut [u8], fd: i32, name: &[u8]) {
     }
 }
 
+// The log has the first bytes of the buffer.
 fn play_first(bytes: &mut [u8], length: usize, fd: i32, name: &[u8]) {
     let n = laws::at_most(length, bytes.len());
     play_in(&mut bytes[..n], fd, name);

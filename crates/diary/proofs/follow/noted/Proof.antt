@@ -1,7 +1,6 @@
 -- `diary::follow::noted` meets its contract. Assumes nothing.
-use mathlib.Core.Path.{ap, _∙_}
+use mathlib.Core.Path.{ap}
 use Rattle.log.specs.Note.{Keeping}
-use Rattle.log.specs.Ring.{Ring}
 use borrow.Author.Needs.{needs}
 use Rattle.diary.proofs.follow.noted.Statement.{statement}
 use Rattle.diary.proofs.follow.noted.Tie as tie

@@ -1,5 +1,4 @@
 -- `diary::lines::digits` meets its contract. Assumes nothing.
-use mathlib.Core.List.{[], _∷_}
 use Rattle.scenario.proofs.Written.{both}
 use Rattle.diary.specs.Lines.{digitsText}
 use borrow.Author.Needs.{needs}

@@ -27,7 +27,10 @@ word-requires-2 : tie.Need-word-requires-2
 word-requires-2 c κs = search needs
 
 returns : tie.Need-returns
-returns c = rw (some-line _ (c .before .before .before .before .before .before .before .before .if1 .taken)) (both _ _ _ (both _ _ _ (c .before .before .before .before .before .digits .ensures) (c .before .before .before .others .ensures)) (c .word .ensures))
+returns c =
+    let o = c .before .before .before in
+    let d = o .before .before in
+    rw (some-line _ (d .before .before .before .if1 .taken)) (both _ _ _ (both _ _ _ (d .digits .ensures) (o .others .ensures)) (c .word .ensures))
 
 returns-2 : tie.Need-returns-2
 returns-2 c = rw (no-line _ (c .before .before .before .if1 .left)) (c .word2 .ensures)

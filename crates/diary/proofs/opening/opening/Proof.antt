@@ -20,10 +20,7 @@ word-requires : tie.Need-word-requires
 word-requires c κs = search needs
 
 returns : tie.Need-returns
-returns c =
-    simp
-    (c .form-line .ensures,
-    c .before .before .enum-told .given .1)
+returns c = simp (c .form-line .ensures, c .before .before .enum-told .given .1)
 
 returns-2 : tie.Need-returns-2
 unfolding decimalText digitsOf lastDigit
