@@ -1,10 +1,12 @@
 pub mod AnyLength
-pub mod FillsAreLines
 pub mod Filling
+pub mod FillsAreLines
 pub mod Following
 pub mod FollowsTheMoments
+pub mod LengthReads
 pub mod Lined
 pub mod LinesOfRecords
 pub mod Reading
+pub mod Sample
 pub mod Sizes
 pub mod WirelogPrints

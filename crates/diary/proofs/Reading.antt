@@ -9,7 +9,7 @@ use borrow.Author.Tests.{lt-ltb, le-ltb, ne-eqb}
 use lib.ListN.{length, getD, drop, drop-of-length-le}
 use Rattle.laws.specs.AtMost.{atMost}
 use Rattle.laws.proofs.AtMost.{at-most-test}
-use Rattle.scenario.proofs.Written.{left-of}
+use Rattle.laws.proofs.Lists.{left-of}
 use Rattle.diary.specs.declared.length.Length.{Length}
 use Rattle.diary.specs.declared.length.Length.the-variants.{Of, Unreadable}
 use Rattle.diary.specs.Length.{past, isDigit, allDigits, numberFrom, lengthOf}

@@ -7,7 +7,8 @@ use native.Mathlib.Omega.{arith}
 use lib.ListN.{length, getD, drop, drop-of-length-le}
 use Rattle.scenario.specs.Lines.{hexesText}
 use Rattle.scenario.specs.Pen.{pen, penned, hexText}
-use Rattle.scenario.proofs.Written.{piece, finished, left-of}
+use Rattle.laws.proofs.Lists.{left-of}
+use Rattle.scenario.proofs.Written.{piece, finished}
 use Rattle.diary.proofs.lines.others.Statement.{statement}
 use Rattle.diary.proofs.lines.others.Tie as tie
 
