@@ -24,13 +24,13 @@ use Rattle.listener.proofs.Roomy.{reachable-roomy}
 told-roomy : {ns : List Now} → Every Reached ns → AllRoomy (toldBuses ns)
 unfolding toldBuses
 told-roomy every.none = none
-told-roomy (every.next {a = n} {l = ns} r rs) = go (n .moment) (n .bus) r
+told-roomy (every.next {a = n} {l = ns} r rs) = go (n .moment) (n .bus) r (told-roomy rs)
   where
-    go : (m : Moment) (b : Bus) → Reachable b → AllRoomy (toldAt m b (toldBuses ns))
-    go (Called v) b q = told-roomy rs
-    go Told b q = next (reachable-roomy b q) (told-roomy rs)
-    go Passed b q = told-roomy rs
-    go Ended b q = told-roomy rs
+    go : (m : Moment) (b : Bus) → Reachable b → AllRoomy (toldBuses ns) → AllRoomy (toldAt m b (toldBuses ns))
+    go (Called v) b q on = on
+    go Told b q on = next (reachable-roomy b q) on
+    go Passed b q on = on
+    go Ended b q on = on
 
 pub wirelog-writes : (bytes s into buffer : List ℕ) → Bytes s → length buffer ≡ room → length bytes ≤ length into
     → Writes bytes s into buffer (wirelogOutput (length bytes) s)

@@ -7,8 +7,9 @@ use native.Mathlib.Omega.{arith}
 use borrow.Author.Tests.{ltb-true, eq-eqb, ne-eqb}
 use lib.Dec.{eqb, ltb}
 use lib.Seq.{append-snoc}
-use Rattle.laws.proofs.FirstIs.{Every, none, next, every-map, every-append}
+use Rattle.laws.proofs.FirstIs.{Every, none, next, every-map}
 use Rattle.promises.specs.Calls.{AllBytes}
+use Rattle.promises.proofs.Shared.Arrays.{every-append}
 use Rattle.scenario.specs.Lines.{hexesText}
 use Rattle.scenario.specs.Pen.{hexDigit, hexText, lastDigit, digitsOf, decimalText}
 use Rattle.scenario.proofs.ReadsBack.{hex-reads-back}

@@ -7,7 +7,7 @@ use Prim.Native.Nat.{ℕ, zero, suc, _<_, _^_}
 use native.Mathlib.Omega.{arith}
 use lib.ListN.{length, take, length-take}
 use lib.Seq.{append-snoc}
-use Rattle.laws.proofs.FirstIs.{Every, none, next, every-append}
+use Rattle.laws.proofs.FirstIs.{Every, none, next}
 use Rattle.wire.specs.Form.{bytesOf}
 use Rattle.wire.specs.declared.part.Telegram.{Telegram}
 use Rattle.station.specs.Events.{Word, Event, numberOf, event, freeEvent, eventsAs, tells}
@@ -20,6 +20,7 @@ use Rattle.station.specs.declared.station.Turn.{Turn}
 use Rattle.bus.specs.Events.{those, linesOf, events}
 use Rattle.bus.specs.declared.bus.Bus.{Bus}
 use Rattle.promises.specs.Calls.{AllBytes}
+use Rattle.promises.proofs.Shared.Arrays.{every-append}
 use Rattle.scenario.specs.Lines.{wordText, valuesText, hexesText, beginText, lineText, textOf, slotText}
 use Rattle.scenario.specs.Pen.{hexText, decimalText}
 use Rattle.scenario.proofs.ReadsBack.{decimal-reads-back}

@@ -3,12 +3,13 @@ use mathlib.Core.Path.{_≡_, refl, ap, _∙_}
 use mathlib.Core.List.{List, [], _∷_, _++_, append-assoc}
 use Prim.Native.Nat.{ℕ, _<_, _^_}
 use native.Mathlib.Omega.{arith}
-use Rattle.laws.proofs.FirstIs.{next, every-map, every-append}
+use Rattle.laws.proofs.FirstIs.{next, every-map}
 use Rattle.bus.specs.Refusal.{refusalNumber}
 use Rattle.bus.specs.declared.refusal.Refusal.{Refusal}
 use Rattle.bus.specs.declared.refusal.Refusal.the-variants.{Running, NoSuchAddress, InUse, NoRoom, NoMaster, NoTarget, NoSlave, NoCommand, TooMuchData, TooManySymbols, OutboxFull, BookFull}
 use Rattle.bus.specs.declared.refusal.Verdict.the-variants.{Refused}
 use Rattle.walk.specs.declared.form.Form.the-variants.{BadField, TooLong}
+use Rattle.promises.proofs.Shared.Arrays.{every-append}
 use Rattle.scenario.specs.Lines.{verdictText, formText, endText}
 use Rattle.scenario.specs.Output.{header}
 use Rattle.scenario.specs.Pen.{decimalText}

@@ -4,7 +4,7 @@ use mathlib.Core.List.{List, [], _∷_, _++_}
 use Prim.Native.Nat.{ℕ, zero, suc, _+_, _-_, _<_}
 use lib.Dec.{eqb, ltb, leb}
 use lib.ListN.{length, take, drop}
-use Rattle.laws.proofs.FirstIs.{Every, none, next, every-append}
+use Rattle.laws.proofs.FirstIs.{Every, none, next}
 use Rattle.station.specs.declared.phase.Sound.the-variants as sound
 use Rattle.bus.specs.Bus.{poweredOn, done}
 use Rattle.bus.specs.Find.{thereIs}
@@ -20,6 +20,7 @@ use Rattle.walk.specs.declared.field.Placed.{Placed}
 use Rattle.walk.specs.declared.walk.Moment.the-variants.{Told, Passed, Ended}
 use Rattle.walk.proofs.GoodForm.{dropped-bytes}
 use Rattle.promises.specs.Calls.{attach, queue, reply, slot, heard, AllBytes, Reachable}
+use Rattle.promises.proofs.Shared.Arrays.{every-append}
 use Rattle.promises.proofs.Shared.Uses.{on-reachable, reachable-more}
 
 -- ---- what a field hands over are bytes

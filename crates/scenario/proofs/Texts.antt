@@ -4,7 +4,6 @@ use mathlib.Core.Bool.{Bool}
 use mathlib.Core.List.{List, [], _∷_, _++_, append-assoc, append-nil}
 use Prim.Native.Nat.{ℕ, _+_, _≤_, _<_}
 use lib.ListN.{length, getD, take, drop}
-use Rattle.laws.proofs.Lists.{left-of-first}
 use Rattle.wire.specs.Form.{bytesOf}
 use Rattle.wire.specs.declared.part.Telegram.{Telegram}
 use Rattle.wire.proofs.Filling.{counted-length}
@@ -14,6 +13,7 @@ use Rattle.station.specs.declared.station.Turn.{Turn}
 use Rattle.bus.specs.Events.{those, linesOf}
 use Rattle.scenario.specs.Pen.{hexText}
 use Rattle.scenario.specs.Lines.{wordText, hexesText, lineText, textOf, plainText, failureText, loadText, givenText, answerText, passText}
+use Rattle.scenario.proofs.Written.{left-of-first}
 
 -- the lines of some events, and behind them those of others
 pub text-append : (slot : ℕ) (es fs : List Event) → textOf slot (es ++ fs) ≡ textOf slot es ++ textOf slot fs

@@ -7,6 +7,7 @@ use Prim.Native.Nat.{ℕ, zero, suc, _+_, _-_, _/_, _≤_, _<_}
 use native.Mathlib.Omega.{arith}
 use borrow.Author.Tests.{lt-ltb, le-ltb}
 use lib.Dec.{ltb}
+pub use Rattle.laws.proofs.Lists.{left-of, left-of-first}
 use Rattle.scenario.specs.Pen.{Pen, pennedOne, penned, hexDigit, hexText, lastDigit, digitsOf}
 
 pub penned-append : (p : Pen) (xs ys : List ℕ) → penned (penned p xs) ys ≡ penned p (xs ++ ys)

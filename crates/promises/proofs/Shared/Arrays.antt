@@ -19,7 +19,8 @@ use Rattle.station.specs.declared.replies.Reply.{Reply}
 use Rattle.station.specs.declared.replies.ReplyBook.{ReplyBook}
 use Rattle.station.specs.declared.replies.Written.{Written}
 use Rattle.station.proofs.Turned.{outboxAfter}
-use Rattle.laws.proofs.FirstIs.{Every, none, next, every-append}
+use Rattle.laws.proofs.FirstIs.{Every, none, next}
+pub use Rattle.laws.proofs.FirstIs.{every-append}
 
 abbrev pub Full : Telegram → Type 0
 Full t = Sixteen (t .load)

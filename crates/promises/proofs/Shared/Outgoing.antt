@@ -38,9 +38,10 @@ use Rattle.bus.specs.Bus.{seats, unseated, poweredOn, attachedTo, attachedTurns
 use Rattle.bus.specs.Find.{meets, firstOf, isMasterAt}
 use Rattle.bus.specs.Queue.{unusable, noTarget, noCommand, holds, queuesTelegram, queuesFrom, queuesAt, queues}
 use Rattle.bus.proofs.Loops.{attached-fit}
-use Rattle.laws.proofs.FirstIs.{Every, none, next, every-append}
+use Rattle.laws.proofs.FirstIs.{Every, none, next}
 use Rattle.promises.specs.Calls.{Call, afterCall, afterCalls, ByteCall, ByteCalls, Reachable}
 use Rattle.promises.specs.Fit.{stationAt, Fit}
+use Rattle.promises.proofs.Shared.Arrays.{every-append}
 use Rattle.promises.proofs.Shared.Seats.{either-false, holdingMore}
 use Rattle.promises.proofs.Shared.Uses.{reached, on-reachable, reachable-more}
 

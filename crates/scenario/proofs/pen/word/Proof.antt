@@ -5,8 +5,7 @@ use mathlib.Core.List.{[], _∷_}
 use Prim.Native.Nat.{_+_, _-_, _≤_}
 use lib.ListN.{length, getD, drop, drop-of-length-le}
 use Rattle.scenario.specs.Pen.{pen, penned}
-use Rattle.laws.proofs.Lists.{left-of}
-use Rattle.scenario.proofs.Written.{piece, finished}
+use Rattle.scenario.proofs.Written.{piece, finished, left-of}
 use native.Mathlib.Omega.{arith}
 use Rattle.scenario.proofs.pen.word.Statement.{statement}
 use Rattle.scenario.proofs.pen.word.Tie as tie
