@@ -69,6 +69,6 @@ unfolding addressHalf.halfIndex addressHalf.classOf addressHalf.subOf addressRol
 sample-in-64 = refl
 
 -- refused 16
-pub sample-in-63 : diaryOutput.wirelogOutput 63 sampleInput ≡ diaryOutput.refused16
-unfolding logLog.withinLimits diaryOutput.wirelogOutput
+pub sample-in-63 : diaryOutput.wirelogOutput 63 sampleInput ≡ 114 ∷ 101 ∷ 102 ∷ 117 ∷ 115 ∷ 101 ∷ 100 ∷ 32 ∷ 49 ∷ 54 ∷ 10 ∷ []
+unfolding logLog.withinLimits scenarioPen.lastDigit scenarioPen.digitsOf scenarioPen.decimalText diaryOutput.wirelogOutput
 sample-in-63 = refl
