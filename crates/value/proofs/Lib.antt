@@ -1,2 +1,14 @@
 pub mod Blocks
 pub mod ByLength
+pub mod Counted
+pub mod Digits
+pub mod Exact
+pub mod Halves
+pub mod MakeAHundred
+pub mod ReadExactly
+pub mod Refused17
+pub mod ScaledExactly
+pub mod Signed
+pub mod Unique
+pub mod Worked
+pub mod WrittenIsRead
