@@ -30,11 +30,21 @@ pub fn read(fd: i32, buffer: &mut [u8]) -> Got {
 }
 
 // Writes the first bytes of a buffer.
-pub fn written(out: [u8; ROOM], used: usize) -> bool {
+fn written(out: [u8; ROOM], used: usize) -> bool {
     if used <= ROOM {
         io::write_all(STDOUT_FILENO, &out[..used])
     } else {
         true
+    }
+}
+
+// The same, and on standard error why it cannot.
+pub fn wrote(out: [u8; ROOM], used: usize) -> bool {
+    if written(out, used) {
+        true
+    } else {
+        os::fail(b"standard output");
+        false
     }
 }
 
@@ -46,10 +56,9 @@ fn run(s: &[u8]) {
             return;
         }
         let f = p.fill(s, &mut out);
-        if written(out, f.used) {
+        if wrote(out, f.used) {
             p = f.printing;
         } else {
-            os::fail(b"standard output");
             return;
         }
     }

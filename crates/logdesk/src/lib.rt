@@ -10,21 +10,11 @@ use log::log::SetUp;
 use scenario::pen::ROOM;
 use walk::form::Form;
 
-// Writes the first bytes of a buffer, or says why it cannot.
-fn wrote(out: [u8; ROOM], used: usize) -> bool {
-    if desk::written(out, used) {
-        true
-    } else {
-        os::fail(b"standard output");
-        false
-    }
-}
-
 // The line of what is refused, alone.
 fn refuse(s: SetUp, f: Form) {
     let mut out = [0u8; ROOM];
     let used = diary::opening::opening(&mut out, s, f);
-    wrote(out, used);
+    desk::wrote(out, used);
 }
 
 // The lines of records, fill after fill.
@@ -33,7 +23,7 @@ fn print(held: &[u8]) {
     let mut at: usize = 0;
     while at < held.len() {
         let f = diary::lines::fill(held, at, &mut out);
-        if wrote(out, f.used) {
+        if desk::wrote(out, f.used) {
             at = f.next;
         } else {
             return;

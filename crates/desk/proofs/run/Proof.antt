@@ -9,10 +9,10 @@ use Rattle.desk.proofs.run.Statement.{statement}
 use Rattle.desk.proofs.run.Tie as tie
 
 abbrev Inv-loop : tie.InvT-loop
-Inv-loop s out₀ p₀ t5 out p = Bytes s
+Inv-loop s out₀ p₀ out p = Bytes s
 
 abbrev μ-loop : tie.MeasureT-loop
-μ-loop s out₀ p₀ t5 out p = fillsLeft p s
+μ-loop s out₀ p₀ out p = fillsLeft p s
 
 start-requires : tie.Need-start-requires Inv-loop μ-loop
 start-requires c κs = search needs
@@ -29,8 +29,8 @@ returns c = search needs
 fill-requires : tie.Need-fill-requires Inv-loop μ-loop
 fill-requires c κs = search needs
 
-written-requires : tie.Need-written-requires Inv-loop μ-loop
-written-requires c κs = search needs
+wrote-requires : tie.Need-wrote-requires Inv-loop μ-loop
+wrote-requires c κs = search needs
 
 loop-less : tie.Need-loop-less Inv-loop μ-loop
 loop-less c =
@@ -42,12 +42,6 @@ loop-less c =
 
 loop-again : tie.Need-loop-again Inv-loop μ-loop
 loop-again c = c .before .before .before .before .before .before .before .loop .inv
-
-slice-aggregate-fail : tie.Need-slice-aggregate-fail Inv-loop μ-loop
-slice-aggregate-fail c = search needs
-
-fail-requires : tie.Need-fail-requires Inv-loop μ-loop
-fail-requires c κs = search needs
 
 returns-2 : tie.Need-returns-2 Inv-loop μ-loop
 returns-2 c = search needs
@@ -63,9 +57,7 @@ run-spec =
     is-done-requires
     returns
     fill-requires
-    written-requires
+    wrote-requires
     loop-less
     loop-again
-    slice-aggregate-fail
-    fail-requires
     returns-2)
