@@ -72,7 +72,7 @@ fn digits(page: &mut [u8; ROOM], at: usize, n: u32, most: u32) -> usize
     }
 }
 
-pub(crate) fn decimal(page: &mut [u8; ROOM], at: usize, n: u32) -> usize
+pub fn decimal(page: &mut [u8; ROOM], at: usize, n: u32) -> usize
     ensures { λ r. ⌜ pen (now (page .exit)) r ≡ penned (pen (now (page .entry)) at) (decimalText n) ⌝ }
 {
     digits(page, at, n, 10)

@@ -1,0 +1,10 @@
+pub mod Decimal
+pub mod Field
+pub mod Fill
+pub mod Form
+pub mod Given
+pub mod Lines
+pub mod Output
+pub mod ReadNumber
+pub mod Tagged
+pub mod Writes
