@@ -2,8 +2,11 @@
 
 use crate::bench;
 use crate::coverage::Coverage;
+use crate::every_value;
 use crate::log_coverage::LogCoverage;
 use crate::maker;
+use crate::value_coverage::ValueCoverage;
+use crate::values;
 use crate::wirelog;
 use std::io::{self, Write};
 use std::path::{Path, PathBuf};
@@ -32,18 +35,39 @@ pub fn log_coverage(count: u64, first_seed: u64) -> LogCoverage {
     total
 }
 
+/// The same for values.
+pub fn value_coverage(count: u64, first_seed: u64) -> ValueCoverage {
+    let mut total = ValueCoverage::default();
+    for seed in seeds(count, first_seed) {
+        total.add(&values::run(&maker::make_fields(seed)).1);
+    }
+    total
+}
+
 /// What the other program is given, and our lines for it.
 struct Trial {
-    scenario: Vec<u8>,
+    /// As a difference names it, and as what is kept of it.
+    name: String,
+    file: String,
+    input: Vec<u8>,
     args: Vec<String>,
     ours: Vec<u8>,
+    /// The field that a line is about, where each field has its line.
+    field_of_line: fn(&[u8], usize) -> Option<Vec<u8>>,
+}
+
+impl Trial {
+    fn of_seed(seed: u64, input: Vec<u8>, args: Vec<String>, ours: Vec<u8>) -> Trial {
+        let (name, file) = (format!("seed {seed}"), format!("scenario-{seed}.bin"));
+        Trial { name, file, input, args, ours, field_of_line: |_, _| None }
+    }
 }
 
 fn bench_trial(seed: u64, total: &mut Coverage) -> Trial {
     let scenario = maker::make(seed);
     let (ours, seen) = bench::run(&scenario);
     total.add(&seen);
-    Trial { scenario, args: Vec::new(), ours }
+    Trial::of_seed(seed, scenario, Vec::new(), ours)
 }
 
 fn log_trial(seed: u64, total: &mut LogCoverage) -> Trial {
@@ -51,7 +75,14 @@ fn log_trial(seed: u64, total: &mut LogCoverage) -> Trial {
     let length = wirelog::length(&text).expect("a length of digits");
     let (ours, seen) = wirelog::run(length, &scenario);
     total.add(&seen);
-    Trial { scenario, args: vec![text], ours }
+    Trial::of_seed(seed, scenario, vec![text], ours)
+}
+
+fn value_trial(name: String, file: String, input: Vec<u8>, total: &mut ValueCoverage) -> Trial {
+    let (ours, seen) = values::run(&input);
+    total.add(&seen);
+    let field_of_line = values::field_of_line;
+    Trial { name, file, input, args: Vec::new(), ours, field_of_line }
 }
 
 /// Where the other program first went another way.
@@ -64,8 +95,8 @@ struct Difference {
 /// The bench lines; true if there was no difference.
 pub fn compare(count: u64, first_seed: u64, program: &str, keep: &Path) -> io::Result<bool> {
     let mut total = Coverage::default();
-    let trial = |seed| bench_trial(seed, &mut total);
-    let agreed = all_agree(seeds(count, first_seed), trial, program, keep)?;
+    let trials = seeds(count, first_seed).map(|seed| bench_trial(seed, &mut total));
+    let agreed = all_agree(trials, program, keep)?;
     println!("{total}");
     Ok(agreed)
 }
@@ -73,25 +104,42 @@ pub fn compare(count: u64, first_seed: u64, program: &str, keep: &Path) -> io::R
 /// The logs; true if there was no difference.
 pub fn compare_logs(count: u64, first_seed: u64, program: &str, keep: &Path) -> io::Result<bool> {
     let mut total = LogCoverage::default();
-    let trial = |seed| log_trial(seed, &mut total);
-    let agreed = all_agree(seeds(count, first_seed), trial, program, keep)?;
+    let trials = seeds(count, first_seed).map(|seed| log_trial(seed, &mut total));
+    let agreed = all_agree(trials, program, keep)?;
     println!("{total}");
     Ok(agreed)
 }
 
+/// The values of random fields; true if there was no difference.
+pub fn compare_values(count: u64, first_seed: u64, program: &str, keep: &Path) -> io::Result<bool> {
+    let mut total = ValueCoverage::default();
+    let trials = seeds(count, first_seed).map(|seed| {
+        let (name, file) = (format!("seed {seed}"), format!("fields-{seed}.bin"));
+        value_trial(name, file, maker::make_fields(seed), &mut total)
+    });
+    let agreed = all_agree(trials, program, keep)?;
+    println!("{total}");
+    Ok(agreed)
+}
+
+/// Every code and every exact value; true if there was no difference.
+pub fn every_value(program: &str, keep: &Path) -> io::Result<bool> {
+    let mut total = ValueCoverage::default();
+    let trials = every_value::files().into_iter().enumerate().map(|(number, input)| {
+        let (name, file) = (format!("file {number}"), format!("every-value-{number}.bin"));
+        value_trial(name, file, input, &mut total)
+    });
+    let agreed = all_agree(trials, program, keep)?;
+    println!("every value files={} lines={}", total.inputs, total.lines);
+    Ok(agreed)
+}
+
 /// Stops at the first difference.
-fn all_agree(
-    seeds: impl Iterator<Item = u64>,
-    mut trial: impl FnMut(u64) -> Trial,
-    program: &str,
-    keep: &Path,
-) -> io::Result<bool> {
-    for seed in seeds {
-        let Trial { scenario, args, ours } = trial(seed);
-        let (theirs, status) = feed(Command::new(program).args(&args), &scenario)?;
-        if let Some(difference) = first_difference(&ours, &theirs, status) {
-            let file = keep_scenario(keep, seed, &scenario)?;
-            report(seed, &args, &file, &difference);
+fn all_agree(trials: impl Iterator<Item = Trial>, program: &str, keep: &Path) -> io::Result<bool> {
+    for trial in trials {
+        let (theirs, status) = feed(Command::new(program).args(&trial.args), &trial.input)?;
+        if let Some(difference) = first_difference(&trial.ours, &theirs, status) {
+            report(&trial, &kept(keep, &trial)?, &difference);
             return Ok(false);
         }
     }
@@ -141,17 +189,29 @@ fn shown(line: Option<&[u8]>) -> String {
     }
 }
 
-fn keep_scenario(keep: &Path, seed: u64, scenario: &[u8]) -> io::Result<PathBuf> {
+fn kept(keep: &Path, trial: &Trial) -> io::Result<PathBuf> {
     std::fs::create_dir_all(keep)?;
-    let file = keep.join(format!("scenario-{seed}.bin"));
-    std::fs::write(&file, scenario)?;
+    let file = keep.join(&trial.file);
+    std::fs::write(&file, &trial.input)?;
     Ok(file)
 }
 
-fn report(seed: u64, args: &[String], file: &Path, difference: &Difference) {
-    println!("difference at seed {seed}, line {}", difference.line);
-    args.iter().for_each(|arg| println!("  given:  {arg}"));
+fn report(trial: &Trial, file: &Path, difference: &Difference) {
+    println!("difference at {}, line {}", trial.name, difference.line);
+    trial.args.iter().for_each(|arg| println!("  given:  {arg}"));
+    if let Some(field) = (trial.field_of_line)(&trial.input, difference.line) {
+        println!("  field:  {}", shown_bytes(&field));
+    }
     println!("  second: {}", difference.ours);
     println!("  other:  {}", difference.theirs);
-    println!("  scenario kept as {}", file.display());
+    println!("  kept as {}", file.display());
+}
+
+/// As many bytes as one cares to read.
+fn shown_bytes(bytes: &[u8]) -> String {
+    let mut words: Vec<String> = bytes.iter().take(32).map(|byte| format!("{byte:02X}")).collect();
+    if bytes.len() > 32 {
+        words.push(format!("... ({} bytes)", bytes.len()));
+    }
+    words.join(" ")
 }

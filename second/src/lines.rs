@@ -73,6 +73,13 @@ pub fn push_record(out: &mut Vec<u8>, record: &[u8]) {
     out.push(b'\n');
 }
 
+/// The bytes of a written value.
+pub fn push_code(out: &mut Vec<u8>, code: &[u8]) {
+    out.extend_from_slice(b"code");
+    push_bytes(out, code);
+    out.push(b'\n');
+}
+
 pub fn push_refusal(out: &mut Vec<u8>, number: u8) {
     out.extend_from_slice(b"refused ");
     push_decimal(out, number as u32);

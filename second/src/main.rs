@@ -4,7 +4,9 @@ mod bench;
 mod bus;
 mod compare;
 mod coverage;
+mod dyadic;
 mod event;
+mod every_value;
 mod intake;
 mod lines;
 mod log;
@@ -18,6 +20,9 @@ mod table;
 mod tests;
 mod timing;
 mod transfer;
+mod types;
+mod value_coverage;
+mod values;
 mod wire;
 mod wirelog;
 
@@ -27,16 +32,20 @@ use std::path::Path;
 use std::process::ExitCode;
 
 const USAGE: &str = "usage:
-  second run                                     scenario on standard input
-  second log LENGTH                              the log, scenario on standard input
-  second make SEED                               scenario on standard output
-  second compare N SEED PROGRAM [KEEP_DIR]       against another program
-  second compare-logs N SEED PROGRAM [KEEP_DIR]  the logs against another program
-  second coverage N SEED                         what N scenarios reach
-  second lines FILE...                           the lines of scenario files
-  second stored DIR                              writes the stored scenarios
-  second stored-logs DIR                         writes the stored logs
-  second bench PROGRAM                           times another program";
+  second run                                        scenario on standard input
+  second log LENGTH                                 the log, scenario on standard input
+  second values                                     values, fields on standard input
+  second make SEED                                  scenario on standard output
+  second compare N SEED PROGRAM [KEEP_DIR]          against another program
+  second compare-logs N SEED PROGRAM [KEEP_DIR]     the logs against another program
+  second compare-values N SEED PROGRAM [KEEP_DIR]   values against another program
+  second every-value PROGRAM [KEEP_DIR]             every code and value against another program
+  second coverage N SEED                            what N scenarios reach
+  second lines FILE...                              the lines of scenario files
+  second stored DIR                                 writes the stored scenarios
+  second stored-logs DIR                            writes the stored logs
+  second stored-values DIR                          writes the stored values
+  second bench PROGRAM                              times another program";
 
 fn main() -> ExitCode {
     let args: Vec<String> = std::env::args().skip(1).collect();
@@ -59,6 +68,7 @@ fn dispatch(words: &[&str]) -> Option<io::Result<ExitCode>> {
     match *words {
         ["run"] => Some(run()),
         ["log", length] => Some(run_log(wirelog::length(length)?)),
+        ["values"] => Some(run_values()),
         ["make", seed] => {
             let seed = seed.parse().ok()?;
             Some(print(&maker::make(seed)))
@@ -67,21 +77,32 @@ fn dispatch(words: &[&str]) -> Option<io::Result<ExitCode>> {
             let (count, seed) = (count.parse().ok()?, seed.parse().ok()?);
             Some(show_coverage(count, seed))
         }
-        [what @ ("compare" | "compare-logs"), count, seed, program, ref rest @ ..]
+        [what @ ("compare" | "compare-logs" | "compare-values"), n, seed, program, ref rest @ ..]
             if rest.len() <= 1 =>
         {
-            let (count, seed) = (count.parse().ok()?, seed.parse().ok()?);
-            let keep = Path::new(rest.first().copied().unwrap_or("."));
-            let logs = what == "compare-logs";
-            let compare = if logs { compare::compare_logs } else { compare::compare };
-            Some(compare(count, seed, program, keep).map(code))
+            let compare = match what {
+                "compare" => compare::compare,
+                "compare-logs" => compare::compare_logs,
+                _ => compare::compare_values,
+            };
+            let (count, seed) = (n.parse().ok()?, seed.parse().ok()?);
+            Some(compare(count, seed, program, folder(rest)).map(code))
+        }
+        ["every-value", program, ref rest @ ..] if rest.len() <= 1 => {
+            Some(compare::every_value(program, folder(rest)).map(code))
         }
         ["lines", ref files @ ..] if !files.is_empty() => Some(show_lines(files)),
         ["stored", dir] => Some(stored::store(Path::new(dir)).map(code)),
         ["stored-logs", dir] => Some(stored::logs::store(Path::new(dir)).map(code)),
+        ["stored-values", dir] => Some(stored::values::store(Path::new(dir)).map(code)),
         ["bench", program] => Some(timing::time(program).map(code)),
         _ => None,
     }
+}
+
+/// Where a difference is kept, if no folder is named.
+fn folder<'a>(rest: &[&'a str]) -> &'a Path {
+    Path::new(rest.first().copied().unwrap_or("."))
 }
 
 fn code(good: bool) -> ExitCode {
@@ -116,6 +137,11 @@ fn run_log(length: u64) -> io::Result<ExitCode> {
     print(&out)
 }
 
+fn run_values() -> io::Result<ExitCode> {
+    let (out, _) = values::run(&read(io::stdin().lock())?);
+    print(&out)
+}
+
 fn show_lines(files: &[&str]) -> io::Result<ExitCode> {
     let mut out = Vec::new();
     for file in files {
@@ -132,8 +158,11 @@ fn show_lines(files: &[&str]) -> io::Result<ExitCode> {
 fn show_coverage(count: u64, seed: u64) -> io::Result<ExitCode> {
     let total = compare::coverage(count, seed);
     let logs = compare::log_coverage(count, seed);
-    println!("{total}\n{logs}");
-    let missing = [total.missing(), logs.missing()].concat();
+    let values = compare::value_coverage(count, seed);
+    println!("{total}\n{logs}\n{values}");
+    let mut missing: Vec<String> =
+        [total.missing(), logs.missing()].concat().iter().map(|name| name.to_string()).collect();
+    missing.extend(values.missing());
     if !missing.is_empty() {
         println!("never: {}", missing.join(" "));
     }

@@ -23,25 +23,33 @@ pub struct BadForm {
 
 /// The whole file is looked at before anything is run.
 pub fn parse(bytes: &[u8]) -> Result<Vec<Op<'_>>, BadForm> {
+    fields(bytes, operation)
+}
+
+/// A file of tagged fields, each as `meaning` takes it; none means bad form.
+pub fn fields<'a, T>(
+    bytes: &'a [u8],
+    meaning: impl Fn(u8, &'a [u8]) -> Option<T>,
+) -> Result<Vec<T>, BadForm> {
     if bytes.len() > MAX_BYTES {
         return Err(BadForm { refusal: 15, offset: MAX_BYTES });
     }
-    let mut ops = Vec::new();
+    let mut found = Vec::new();
     let mut offset = 0;
     while offset < bytes.len() {
-        let (op, size) = field(&bytes[offset..]).ok_or(BadForm { refusal: 14, offset })?;
-        ops.push(op);
-        offset += size;
+        let bad = BadForm { refusal: 14, offset };
+        let (tag, value) = field(&bytes[offset..]).ok_or(bad)?;
+        found.push(meaning(tag, value).ok_or(bad)?);
+        offset += 3 + value.len();
     }
-    Ok(ops)
+    Ok(found)
 }
 
-/// The first field of the rest and its size; none if it is cut or wrong.
-fn field(rest: &[u8]) -> Option<(Op<'_>, usize)> {
+/// Tag and value of the first field of the rest; none if it is cut.
+fn field(rest: &[u8]) -> Option<(u8, &[u8])> {
     let (&[tag, high, low], after) = rest.split_first_chunk::<3>()?;
     let len = u16::from_be_bytes([high, low]) as usize;
-    let value = after.get(..len)?;
-    Some((operation(tag, value)?, 3 + len))
+    Some((tag, after.get(..len)?))
 }
 
 fn operation(tag: u8, value: &[u8]) -> Option<Op<'_>> {

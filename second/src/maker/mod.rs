@@ -1,15 +1,19 @@
 //! Random scenarios. Every second one is made blind, the others with the
-//! simulator in the loop, so that it is disturbed where it hurts.
+//! simulator in the loop, so that it is disturbed where it hurts. And random
+//! fields for the program `values`.
 
 mod aimed;
 mod blind;
 mod draft;
+mod fields;
 mod length;
 mod ruin;
+mod shares;
 
 use crate::random::Random;
 use crate::wirelog;
 use draft::Draft;
+pub use fields::make as make_fields;
 
 /// The scenario of a seed; the same bytes every time.
 pub fn make(seed: u64) -> Vec<u8> {

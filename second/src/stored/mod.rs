@@ -11,6 +11,7 @@ mod form;
 pub mod logs;
 mod parts;
 mod text;
+pub mod values;
 
 use crate::bench;
 use std::collections::BTreeSet;

@@ -4,6 +4,7 @@
 
 mod access;
 mod answers;
+mod exact;
 mod foreign;
 mod limits;
 mod logs;
@@ -11,6 +12,7 @@ mod made;
 mod parts;
 mod refusals;
 mod symbols;
+mod values;
 
 use crate::bench;
 use crate::scenario::{self, Op};
