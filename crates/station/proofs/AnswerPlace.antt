@@ -21,7 +21,7 @@ use Rattle.station.specs.Admission.{bids}
 use Rattle.station.specs.Station.{answering, ready}
 use Rattle.station.specs.Hear.{hears}
 use Rattle.station.proofs.Aa.{NoSyn}
-use Rattle.station.proofs.Moves.{Moves, reading-waits, wins, reads-on, not-for-it, breaks-answer, reads-whole, reads-too-long, awaits-answer, ends-taken}
+use Rattle.station.proofs.Moves.{Moves, reading-waits, wins, reads-on, not-for-it, breaks-answer, reads-whole, awaits-answer, ends-taken}
 use Rattle.station.proofs.Possible.{InAnswer, Fit, reading-answer, Possible, no-pb, answer-goes-on, bids-at-start}
 use Rattle.station.proofs.Turned.{moves-of}
 
@@ -48,7 +48,6 @@ answer-row n w (reads-on _) = goes-on
 answer-row {part = part} n w (not-for-it {c = c} {b = b} e) = absurd (no-pb (rw e at (answer-goes-on c part b w)))
 answer-row n w breaks-answer = is-broken
 answer-row n w (reads-whole _) = is-whole
-answer-row n w (reads-too-long _) = is-whole
 
 place-of : {c : Cursor} {a : Attempt} → Fit (Reading c AnswerPart a) → InAnswer (c .place)
 place-of (reading-answer w) = w

@@ -6,7 +6,7 @@ use Prim.Native.Nat.{ℕ, _+_}
 use Rattle.wire.specs.Reader.{answerStart, readOne, startOf}
 use Rattle.wire.specs.declared.part.Telegram.{Telegram}
 use Rattle.wire.specs.declared.reader.Cursor.{Cursor}
-use Rattle.wire.specs.declared.reader.Outcome.the-variants.{More, TooLong, Whole}
+use Rattle.wire.specs.declared.reader.Outcome.the-variants.{More, Whole}
 use Rattle.wire.specs.declared.reader.Place.the-variants.{Pb}
 use Rattle.wire.specs.declared.part.Part.{Part}
 use Rattle.wire.specs.declared.part.Part.the-variants.{MasterPart, AnswerPart}
@@ -50,8 +50,6 @@ pub data Moves (bid : Bool) (own : ℕ) (part : Telegram) : Phase → Sound → 
       → Moves bid own part (Reading c MasterPart a) (Symbol b) Given Silent
   reads-whole : {c : Cursor} {p : Part} {a : Attempt} {b : ℕ} {m : Bool} → readOne c part b .outcome ≡ Whole m
       → Moves bid own part (Reading c p a) (Symbol b) Silence (Judging p a m false)
-  reads-too-long : {c : Cursor} {p : Part} {a : Attempt} {b : ℕ} → readOne c part b .outcome ≡ TooLong
-      → Moves bid own part (Reading c p a) (Symbol b) Silence (Judging p a false false)
   -- sending
   sends-on : {i : ℕ} {p : Part} {a : Attempt} {b : ℕ} → Moves bid own part (Sending i p a) (Symbol b) Silence (Sending (i + 1) p a)
   takes-broadcast : {i : ℕ} {a : Attempt} {b : ℕ} → forAll (part .zz) ≡ true

@@ -29,7 +29,7 @@ use Rattle.station.specs.Station.{answering, ready}
 use Rattle.station.specs.Hear.{hears}
 use Rattle.station.proofs.Aa.{by-sound}
 use Rattle.station.proofs.AfterSyn.{SynTells, sending-owner, awaiting-owner, reading-owner, judging-owner, releasing-owner, sending-slave, awaiting-slave, silent-station, reading-station, judging-station, owing-slave, after-syn, syn-tells}
-use Rattle.station.proofs.Moves.{Moves, silent-on, owing-on, reading-waits, awaiting-waits, acknowledges, leaves-released, leaves-disturbed, stops-disturbed, wins, reads-on, not-for-it, reads-in-vain, breaks-answer, gives-broadcast, reads-whole, reads-too-long, sends-on, takes-broadcast, sends-whole, awaits-answer, ends-taken, answer-taken, sends-again, ends-failed, answer-failed, gives-and-owes, gives, gives-answer, reads-again, gives-nothing, answer-lost}
+use Rattle.station.proofs.Moves.{Moves, silent-on, owing-on, reading-waits, awaiting-waits, acknowledges, leaves-released, leaves-disturbed, stops-disturbed, wins, reads-on, not-for-it, reads-in-vain, breaks-answer, gives-broadcast, reads-whole, sends-on, takes-broadcast, sends-whole, awaits-answer, ends-taken, answer-taken, sends-again, ends-failed, answer-failed, gives-and-owes, gives, gives-answer, reads-again, gives-nothing, answer-lost}
 use Rattle.station.proofs.Frame.{Begins, as-it-stood, answers, ready-begins}
 use Rattle.station.proofs.Turned.{moves-of}
 use Rattle.station.proofs.Possible.{Fit, reading, reading-answer, Possible, no-pb, answer-goes-on, bids-at-start}
@@ -76,7 +76,6 @@ module _ {own : ℕ} {part : Telegram} where
   row s f breaks-answer = as-it-was of-failed
   row s f (gives-broadcast _ _) = as-it-was of-given
   row s f (reads-whole _) = as-it-was of-nothing
-  row s f (reads-too-long _) = as-it-was of-nothing
   row s f sends-on = as-it-was of-nothing
   row s f (takes-broadcast _) = as-it-was of-taken
   row s f sends-whole = as-it-was of-nothing

@@ -33,7 +33,7 @@ use Rattle.station.specs.Admission.{bids}
 use Rattle.station.specs.Station.{fresh, ready, answering}
 use Rattle.station.specs.Hear.{hears}
 use Rattle.station.proofs.AfterSyn.{after-syn}
-use Rattle.station.proofs.Moves.{Moves, silent-on, owing-on, reading-waits, awaiting-waits, acknowledges, leaves-released, leaves-disturbed, stops-disturbed, wins, reads-on, not-for-it, reads-in-vain, breaks-answer, gives-broadcast, reads-whole, reads-too-long, sends-on, takes-broadcast, sends-whole, awaits-answer, ends-taken, answer-taken, sends-again, ends-failed, answer-failed, gives-and-owes, gives, gives-answer, reads-again, gives-nothing, answer-lost}
+use Rattle.station.proofs.Moves.{Moves, silent-on, owing-on, reading-waits, awaiting-waits, acknowledges, leaves-released, leaves-disturbed, stops-disturbed, wins, reads-on, not-for-it, reads-in-vain, breaks-answer, gives-broadcast, reads-whole, sends-on, takes-broadcast, sends-whole, awaits-answer, ends-taken, answer-taken, sends-again, ends-failed, answer-failed, gives-and-owes, gives, gives-answer, reads-again, gives-nothing, answer-lost}
 use Rattle.station.proofs.Frame.{Begins, as-it-stood, answers, ready-begins, admission-over}
 use Rattle.station.proofs.Turned.{moves-of}
 use Rattle.station.proofs.Aa.{NoSyn, IsSyn, by-sound}
@@ -147,7 +147,6 @@ next-fit reads-in-vain f = silent
 next-fit breaks-answer f = releasing
 next-fit (gives-broadcast _ _) f = silent
 next-fit (reads-whole _) f = judging
-next-fit (reads-too-long _) f = judging
 next-fit sends-on f = sending
 next-fit (takes-broadcast _) f = releasing
 next-fit sends-whole f = awaiting

@@ -21,7 +21,7 @@ use Rattle.station.specs.declared.phase.Phase.the-variants.{Silent, Read
 use Rattle.station.specs.declared.phase.Sound.{Sound}
 use Rattle.station.specs.declared.phase.Sound.the-variants.{Quiet, Symbol}
 use Rattle.station.specs.declared.phase.Failure.{Failure}
-use Rattle.station.specs.declared.phase.Failure.the-variants.{Disturbed, WrongAck, TwiceNak, PairBroken}
+use Rattle.station.specs.declared.phase.Failure.the-variants.{Disturbed, WrongAck, TwiceNak, PairBroken, OverLong}
 use Rattle.station.specs.declared.phase.Told.{Told}
 use Rattle.station.specs.declared.phase.Told.the-variants.{Silence, Owns, Taken, Failed, Free, FailedFree, Given, Answered}
 use Rattle.station.specs.declared.station.Station.{Station}
@@ -34,7 +34,7 @@ use Rattle.station.specs.Addressed.{forAll, answered, isOwn}
 use Rattle.station.specs.Table.{readerFails, whole, addressed, readOn, readOnAt, readsAs, reads, handedOut, judgedTaken, readAgain, judges, left, released, senderFails, hearBid, sentWhole, sent, hearOwnAs, hearOwn, taken, nakHeard, hearReply, hearReading, heardNothing, heardOther, row, ownerFails}
 use Rattle.station.specs.Hear.{hearQuiet, hearSymbol, hears}
 use Rattle.station.proofs.Aa.{NoSyn, quiet, symbol, heard-other}
-use Rattle.station.proofs.Moves.{Moves, silent-on, owing-on, reading-waits, awaiting-waits, acknowledges, leaves-released, leaves-disturbed, stops-disturbed, wins, reads-on, not-for-it, reads-in-vain, breaks-answer, gives-broadcast, reads-whole, reads-too-long, sends-on, takes-broadcast, sends-whole, awaits-answer, ends-taken, answer-taken, sends-again, ends-failed, answer-failed, gives-and-owes, gives, gives-answer, reads-again, gives-nothing, answer-lost}
+use Rattle.station.proofs.Moves.{Moves, silent-on, owing-on, reading-waits, awaiting-waits, acknowledges, leaves-released, leaves-disturbed, stops-disturbed, wins, reads-on, not-for-it, reads-in-vain, breaks-answer, gives-broadcast, reads-whole, sends-on, takes-broadcast, sends-whole, awaits-answer, ends-taken, answer-taken, sends-again, ends-failed, answer-failed, gives-and-owes, gives, gives-answer, reads-again, gives-nothing, answer-lost}
 
 -- an owner that leaves drops its telegram, and nothing else changes the outbox
 abbrev pub outboxAfter : Told → Outbox → Outbox
@@ -52,11 +52,13 @@ pub data SendsAa : Failure → Type 0 where
   after-2 : SendsAa WrongAck
   after-3 : SendsAa TwiceNak
   after-5 : SendsAa PairBroken
+  after-5-long : SendsAa OverLong
 
 pub owner-sends-aa : (x : Station) {f : Failure} → SendsAa f → ownerFails f x ≡ goes x Releasing (Failed f)
 owner-sends-aa x after-2 = refl
 owner-sends-aa x after-3 = refl
 owner-sends-aa x after-5 = refl
+owner-sends-aa x after-5-long = refl
 
 -- a turn from the phase p, on the sound h: a row, and what stays of the station x
 pub record Turned (bid : Bool) (part : Telegram) (x : Station) (p : Phase) (h : Sound) (t : Turn) : Type 0 where
@@ -125,14 +127,9 @@ module _ {bid : Bool} {part : Telegram} where
         given true e f = going (gives-broadcast e (ap (λ (t : Telegram). forAll (t .zz)) (sym r) ∙ f)) refl
         given false e f = going reads-in-vain refl
 
-    long-turned : (p : Part) → readOne c part b .outcome ≡ TooLong → Turned bid part x (Reading c p a) (Symbol b) (whole x p a false)
-    unfolding whole
-    long-turned AnswerPart e = going (reads-too-long e) refl
-    long-turned MasterPart e = tested (forAll (x .part .zz)) (λ _. going reads-in-vain refl) (λ _. going (reads-too-long e) refl)
-
-    vain-turned : (p : Part) → Turned bid part x (Reading c p a) (Symbol b) (readerFails p PairBroken x)
-    vain-turned MasterPart = going reads-in-vain refl
-    vain-turned AnswerPart = going breaks-answer refl
+    vain-turned : (p : Part) {f : Failure} → SendsAa f → Turned bid part x (Reading c p a) (Symbol b) (readerFails p f x)
+    vain-turned MasterPart f = going reads-in-vain refl
+    vain-turned AnswerPart f = rw (owner-sends-aa x f) (going breaks-answer refl)
 
     on-turned : (p : Part) → readOne c part b .outcome ≡ More
         → Turned bid part x (Reading c p a) (Symbol b) (readOn x (readOne c part b .cursor) p a)
@@ -155,11 +152,11 @@ module _ {bid : Bool} {part : Telegram} where
     outcome-turned : (p : Part) (o : Outcome) → readOne c part b .outcome ≡ o → x .part ≡ readOne c part b .part
         → Turned bid part x (Reading c p a) (Symbol b) (readsAs o x (readOne c part b .cursor) p a)
     outcome-turned p More e r = on-turned p e
-    outcome-turned p Cut e r = vain-turned p
-    outcome-turned p NoMaster e r = vain-turned p
-    outcome-turned p Unusable e r = vain-turned p
-    outcome-turned p TooLong e r = long-turned p e
-    outcome-turned p BrokenPair e r = vain-turned p
+    outcome-turned p Cut e r = vain-turned p after-5
+    outcome-turned p NoMaster e r = vain-turned p after-5
+    outcome-turned p Unusable e r = vain-turned p after-5
+    outcome-turned p TooLong e r = vain-turned p after-5-long
+    outcome-turned p BrokenPair e r = vain-turned p after-5
     outcome-turned p (Whole m) e r = whole-turned p m e r
 
 module _ {bid : Bool} where

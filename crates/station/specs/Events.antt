@@ -5,7 +5,7 @@ use lib.ListN.{length}
 use Rattle.wire.specs.Form.{bytesOf}
 use Rattle.wire.specs.declared.part.Telegram.{Telegram}
 use Rattle.station.specs.declared.phase.Failure.{Failure}
-use Rattle.station.specs.declared.phase.Failure.the-variants.{Disturbed, WrongAck, TwiceNak, SynHeard, PairBroken}
+use Rattle.station.specs.declared.phase.Failure.the-variants.{Disturbed, WrongAck, TwiceNak, SynHeard, PairBroken, OverLong}
 use Rattle.station.specs.declared.phase.Told.{Told}
 use Rattle.station.specs.declared.phase.Told.the-variants.{Silence, Owns, Taken, Failed, Free, FailedFree, Given, Answered}
 use Rattle.station.specs.declared.station.Turn.{Turn}
@@ -23,13 +23,14 @@ pub record Event : Type 0 where
   pub leaving : List ℕ
 
 -- 1 heard anything but its own symbol; 2 another symbol than 00, FF or AA as acknowledgement, or 00 after a wrong CRC; 3 FF twice;
--- 4 AA; 5 a broken pair in an answer
+-- 4 AA; 5 a broken pair in an answer, or an NN above 16 there
 abbrev pub numberOf : Failure → ℕ
 numberOf Disturbed = 1
 numberOf WrongAck = 2
 numberOf TwiceNak = 3
 numberOf SynHeard = 4
 numberOf PairBroken = 5
+numberOf OverLong = 5
 
 abbrev pub event : ℕ → Word → List ℕ → Event
 event a w vs = record { station = a; word = w; values = vs; leaving = [] }

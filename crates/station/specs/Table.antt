@@ -19,7 +19,7 @@ use Rattle.station.specs.declared.phase.Phase.the-variants.{Silent, Read
 use Rattle.station.specs.declared.phase.Sound.{Sound}
 use Rattle.station.specs.declared.phase.Sound.the-variants.{Quiet, Symbol}
 use Rattle.station.specs.declared.phase.Failure.{Failure}
-use Rattle.station.specs.declared.phase.Failure.the-variants.{Disturbed, WrongAck, TwiceNak, SynHeard, PairBroken}
+use Rattle.station.specs.declared.phase.Failure.the-variants.{Disturbed, WrongAck, TwiceNak, SynHeard, PairBroken, OverLong}
 use Rattle.station.specs.declared.phase.Told.the-variants.{Silence, Taken, Failed, Free, FailedFree, Given, Answered}
 use Rattle.station.specs.declared.station.Station.{Station}
 use Rattle.station.specs.declared.station.Turn.{Turn}
@@ -47,6 +47,7 @@ ownerFails WrongAck s = goes s Releasing (Failed WrongAck)
 ownerFails TwiceNak s = goes s Releasing (Failed TwiceNak)
 ownerFails SynHeard s = record { station = left s; told = FailedFree SynHeard }
 ownerFails PairBroken s = goes s Releasing (Failed PairBroken)
+ownerFails OverLong s = goes s Releasing (Failed OverLong)
 
 -- the sender of a master part is the owner, of an answer a slave, which falls silent
 abbrev pub senderFails : Part → Failure → Station → Turn
@@ -110,12 +111,12 @@ readOnAt Crc s on = goes s on Silence
 unfoldable pub readOn : Station → Cursor → Part → Attempt → Turn
 readOn s c p a = readOnAt (c .place) s (Reading c p a)
 
--- by the reader's outcome: an NN above 16 is as a wrong CRC; a broken pair in an answer is failed 5. (An owner comes to none of
--- the last three: an answer has neither QQ nor ZZ, PB, SB, and AA is told apart before it is read.)
+-- by the reader's outcome: an NN above 16 and a broken pair get no acknowledgement (02, E3), and in an answer they are failed 5. (An
+-- owner comes to none of the last three: an answer has neither QQ nor ZZ, PB, SB, and AA is told apart before it is read.)
 abbrev pub readsAs : Outcome → Station → Cursor → Part → Attempt → Turn
 readsAs More s c p a = readOn s c p a
 readsAs (Whole matched) s c p a = whole s p a matched
-readsAs TooLong s c p a = whole s p a false
+readsAs TooLong s c p a = readerFails p OverLong s
 readsAs BrokenPair s c p a = readerFails p PairBroken s
 readsAs NoMaster s c p a = readerFails p PairBroken s
 readsAs Unusable s c p a = readerFails p PairBroken s

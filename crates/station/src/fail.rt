@@ -51,6 +51,7 @@ impl Station {
                 told: Told::FailedFree(Failure::SynHeard),
             },
             Failure::PairBroken => self.then_syn(Failure::PairBroken),
+            Failure::OverLong => self.then_syn(Failure::OverLong),
         }
     }
 

@@ -164,11 +164,11 @@ impl Station {
         let outcome = step.outcome;
         let next = match outcome {
             Outcome::More => Next::read_on(step.cursor, part, attempt, own, read.zz),
-            Outcome::Cut => Next::lost(part),
-            Outcome::NoMaster => Next::lost(part),
-            Outcome::Unusable => Next::lost(part),
-            Outcome::TooLong => Next::whole(part, attempt, false, read.zz),
-            Outcome::BrokenPair => Next::lost(part),
+            Outcome::Cut => Next::lost(part, Failure::PairBroken),
+            Outcome::NoMaster => Next::lost(part, Failure::PairBroken),
+            Outcome::Unusable => Next::lost(part, Failure::PairBroken),
+            Outcome::TooLong => Next::lost(part, Failure::OverLong),
+            Outcome::BrokenPair => Next::lost(part, Failure::PairBroken),
             Outcome::Whole(matched) => Next::whole(part, attempt, matched, read.zz),
         };
         let since = self.since;

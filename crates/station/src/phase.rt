@@ -69,6 +69,8 @@ pub enum Failure {
     SynHeard,
     // 5: a broken pair in an answer.
     PairBroken,
+    // 5 as well: an NN above 16 in an answer.
+    OverLong,
 }
 
 impl Failure {
@@ -82,6 +84,7 @@ impl Failure {
             Failure::TwiceNak => 3,
             Failure::SynHeard => 4,
             Failure::PairBroken => 5,
+            Failure::OverLong => 5,
         }
     }
 }

@@ -1,12 +1,11 @@
 // The reader of a part: the owner reads an answer, any other station a master part (01, "Reading", "Broadcast").
 // What a symbol makes of its reader is worked out in small values: a whole station would be copied at every step.
 ghost use mathlib.Core.Path.{_≡_};
-ghost use Rattle.station.specs.declared.phase.Failure.the-variants.{PairBroken};
 ghost use Rattle.station.specs.declared.phase.Phase.the-variants.{Releasing};
 ghost use Rattle.station.specs.declared.phase.Told.the-variants.{Failed};
 ghost use Rattle.station.specs.declared.station.Station.{Station};
 ghost use Rattle.station.specs.Addressed.{forAll, answered, isOwn};
-ghost use Rattle.station.specs.Table.{readerFails, whole, addressed, readOn};
+ghost use Rattle.station.specs.Table.{ownerFails, readerFails, whole, addressed, readOn};
 ghost use Rattle.station.specs.Turn.{goes};
 use crate::phase::Attempt;
 use crate::phase::Failure;
@@ -136,16 +135,18 @@ impl Next {
         }
     }
 
-    // The reading comes to nothing with this symbol: the owner is told failed 5, any other station nothing.
-    pub(crate) fn lost(part: Part) -> Next
-        ensures { λ r. ⌜ ((s : Station) → goes s (r .phase) (r .told) ≡ readerFails part PairBroken s) ⌝ }
+    // The reading comes to nothing with this symbol: the owner is told so and sends SYN, any other station is silent.
+    pub(crate) fn lost(part: Part, failure: Failure) -> Next
+        ensures { λ r.
+            ⌜ ((s : Station) → ownerFails failure s ≡ goes s Releasing (Failed failure)
+            → goes s (r .phase) (r .told) ≡ readerFails part failure s) ⌝ }
     {
         match part {
             Part::MasterPart => Next {
                 phase: Phase::Silent,
                 told: Told::Silence,
             },
-            Part::AnswerPart => Next::then_syn(Failure::PairBroken),
+            Part::AnswerPart => Next::then_syn(failure),
         }
     }
 

@@ -13,13 +13,14 @@ then-syn-requires : tie.Need-then-syn-requires
 then-syn-requires c κs = search needs
 
 returns : tie.Need-returns
-returns c = λ s. simp (c .enum-told .given .1)
+returns c = λ s _. simp (c .enum-told .given .1)
 
 returns-2 : tie.Need-returns-2
 returns-2 c =
-    λ s. simp (
+    λ s e. simp (
       c .then-syn .ensures s,
       c .before .enum-told2 .given .1,
+      e,
     )
 
 pub lost-spec : {M : Type 1} → statement M

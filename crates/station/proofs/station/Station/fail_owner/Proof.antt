@@ -34,6 +34,12 @@ enum-told-5 c = search needs
 then-syn-requires-3 : tie.Need-then-syn-requires-3
 then-syn-requires-3 c κs = search needs
 
+enum-told-6 : tie.Need-enum-told-6
+enum-told-6 c = search needs
+
+then-syn-requires-4 : tie.Need-then-syn-requires-4
+then-syn-requires-4 c κs = search needs
+
 returns : tie.Need-returns
 unfolding ownerFails
 returns c =
@@ -74,6 +80,14 @@ returns-5 c =
       c .before .enum-told5 .given .1,
     )
 
+returns-6 : tie.Need-returns-6
+unfolding ownerFails
+returns-6 c =
+    simp (
+      c .then-syn4 .ensures,
+      c .before .enum-told6 .given .1,
+    )
+
 pub fail-owner-spec : {M : Type 1} → statement M
 fail-owner-spec =
     tie.close
@@ -88,8 +102,11 @@ fail-owner-spec =
     leave-requires-2
     enum-told-5
     then-syn-requires-3
+    enum-told-6
+    then-syn-requires-4
     returns
     returns-2
     returns-3
     returns-4
-    returns-5)
+    returns-5
+    returns-6)

@@ -67,20 +67,20 @@ lost-requires-3 c κs = search needs
 enum-told-5 : tie.Need-enum-told-5
 enum-told-5 c = search needs
 
-whole-requires : tie.Need-whole-requires
-whole-requires c κs = search needs
+lost-requires-4 : tie.Need-lost-requires-4
+lost-requires-4 c κs = search needs
 
 enum-told-6 : tie.Need-enum-told-6
 enum-told-6 c = search needs
 
-lost-requires-4 : tie.Need-lost-requires-4
-lost-requires-4 c κs = search needs
+lost-requires-5 : tie.Need-lost-requires-5
+lost-requires-5 c κs = search needs
 
 enum-known-outcome : tie.Need-enum-known-outcome
 enum-known-outcome c = search needs
 
-whole-requires-2 : tie.Need-whole-requires-2
-whole-requires-2 c κs = search needs
+whole-requires : tie.Need-whole-requires
+whole-requires c κs = search needs
 
 next-requires : tie.Need-next-requires
 next-requires c κs = search needs
@@ -150,15 +150,15 @@ goes-on c u z o =
     ⊎-elim
     (λ (match, told, read-on, e). goes-as u _ _ _ _ _ _ _ (told .given .1) e (read-on .ensures u z o))
     (⊎-elim
-    (λ (match, told, lost, e). goes-as u _ _ _ _ _ _ _ (told .given .1) e (lost .ensures u))
+    (λ (match, told, lost, e). goes-as u _ _ _ _ _ _ _ (told .given .1) e (lost .ensures u refl))
     (⊎-elim
-    (λ (match, told, lost, e). goes-as u _ _ _ _ _ _ _ (told .given .1) e (lost .ensures u))
+    (λ (match, told, lost, e). goes-as u _ _ _ _ _ _ _ (told .given .1) e (lost .ensures u refl))
     (⊎-elim
-    (λ (match, told, lost, e). goes-as u _ _ _ _ _ _ _ (told .given .1) e (lost .ensures u))
+    (λ (match, told, lost, e). goes-as u _ _ _ _ _ _ _ (told .given .1) e (lost .ensures u refl))
     (⊎-elim
-    (λ (match, told, whole, e). goes-as u _ _ _ _ _ _ _ (told .given .1) e (whole .ensures u z))
+    (λ (match, told, lost, e). goes-as u _ _ _ _ _ _ _ (told .given .1) e (lost .ensures u refl))
     (⊎-elim
-    (λ (match, told, lost, e). goes-as u _ _ _ _ _ _ _ (told .given .1) e (lost .ensures u))
+    (λ (match, told, lost, e). goes-as u _ _ _ _ _ _ _ (told .given .1) e (lost .ensures u refl))
     (λ (match, outcome, known, whole, e). goes-as u _ _ _ _ _ _ _ (outcome .given .1) e (whole .ensures u z)))))))
     (c .match .came)
 
@@ -202,10 +202,10 @@ hear-reading-spec =
     enum-told-4
     lost-requires-3
     enum-told-5
-    whole-requires
-    enum-told-6
     lost-requires-4
+    enum-told-6
+    lost-requires-5
     enum-known-outcome
-    whole-requires-2
+    whole-requires
     next-requires
     returns-2)
