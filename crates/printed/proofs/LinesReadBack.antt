@@ -13,7 +13,7 @@ use Rattle.wire.specs.declared.part.Telegram.{Telegram}
 use Rattle.station.specs.Events.{Word, Event, numberOf, event, freeEvent, eventsAs, tells}
 use Rattle.station.specs.Events as word
 use Rattle.station.specs.declared.phase.Failure.{Failure}
-use Rattle.station.specs.declared.phase.Failure.the-variants.{Disturbed, WrongAck, TwiceNak, SynHeard, PairBroken}
+use Rattle.station.specs.declared.phase.Failure.the-variants.{Disturbed, WrongAck, TwiceNak, SynHeard, PairBroken, OverLong}
 use Rattle.station.specs.declared.phase.Told.{Told}
 use Rattle.station.specs.declared.phase.Told.the-variants.{Silence, Owns, Taken, Failed, Free, FailedFree, Given, Answered}
 use Rattle.station.specs.declared.station.Turn.{Turn}
@@ -132,6 +132,7 @@ number-small WrongAck = omega arith
 number-small TwiceNak = omega arith
 number-small SynHeard = omega arith
 number-small PairBroken = omega arith
+number-small OverLong = omega arith
 
 -- the events of a station are of bytes
 turn-bytes : (last : Bool) (t : Turn) → ByteTurn t → Every ByteEvent (those last (tells t))

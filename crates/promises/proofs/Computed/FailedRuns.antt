@@ -3,7 +3,7 @@
 use mathlib.Core.Path.{_≡_, refl}
 use mathlib.Core.Bool.{true}
 use mathlib.Core.List.{List, [], _∷_, _++_, map}
-use Rattle.station.specs.declared.phase.Failure.the-variants.{Disturbed, WrongAck, TwiceNak, SynHeard, PairBroken}
+use Rattle.station.specs.declared.phase.Failure.the-variants.{Disturbed, WrongAck, TwiceNak, SynHeard, PairBroken, OverLong}
 use Rattle.station.specs.declared.phase.Sound.the-variants.{Quiet, Symbol}
 use Rattle.station.specs.declared.phase.Told.{Told}
 use Rattle.station.specs.declared.phase.Told.the-variants.{Silence, Failed, FailedFree}
@@ -53,6 +53,10 @@ table =
     -- 5: the owner, by a broken pair in the data, in the CRC
     ∷ row (unanswered ++ symbols (0x01 ∷ 0xA9 ∷ 0x05 ∷ [])) (Failed PairBroken ∷ [])
     ∷ row (unanswered ++ symbols (0x00 ∷ 0xA9 ∷ 0xFF ∷ [])) (Failed PairBroken ∷ [])
+    -- 5: the owner, by an NN above 16, at once; in the answer that is read again
+    ∷ row (unanswered ++ symbols (0x11 ∷ [])) (Failed OverLong ∷ [])
+    ∷ row (unanswered ++ symbols (0xFF ∷ [])) (Failed OverLong ∷ [])
+    ∷ row (unanswered ++ symbols (0x00 ∷ 0x55 ∷ 0xFF ∷ 0x11 ∷ [])) (Failed OverLong ∷ [])
     ∷ []
 
 -- each station is told so

@@ -29,7 +29,7 @@ use Rattle.station.specs.declared.phase.Told.{Told}
 use Rattle.station.specs.declared.phase.Told.the-variants.{Silence, Owns, Taken, Failed, Free, FailedFree, Given, Answered}
 use Rattle.station.specs.Addressed.{forAll}
 use Rattle.station.specs.Station.{syn, ack, nak}
-use Rattle.station.proofs.Moves.{Moves, silent-on, owing-on, reading-waits, awaiting-waits, acknowledges, leaves-released, leaves-disturbed, stops-disturbed, wins, reads-on, not-for-it, reads-in-vain, breaks-answer, gives-broadcast, reads-whole, reads-too-long, sends-on, takes-broadcast, sends-whole, awaits-answer, ends-taken, answer-taken, sends-again, ends-failed, answer-failed, gives-and-owes, gives, gives-answer, reads-again, gives-nothing, answer-lost}
+use Rattle.station.proofs.Moves.{Moves, silent-on, owing-on, reading-waits, awaiting-waits, acknowledges, leaves-released, leaves-disturbed, stops-disturbed, wins, reads-on, not-for-it, reads-in-vain, breaks-answer, gives-broadcast, reads-whole, sends-on, takes-broadcast, sends-whole, awaits-answer, ends-taken, answer-taken, sends-again, ends-failed, answer-failed, gives-and-owes, gives, gives-answer, reads-again, gives-nothing, answer-lost}
 use Rattle.promises.specs.Heard.{isFirst, sinceAfter, WasHeard}
 use Rattle.promises.proofs.Shared.PartAfter.{ForOne, PartAfter, is-oldest, is-read, reading-kept, silent-kept, sending-kept, awaiting-kept, judging-kept, owing-kept, releasing-kept}
 
@@ -180,8 +180,6 @@ module _ {bid : Bool} {own : ℕ} {part oldest : Telegram} {xs : List ℕ} (kept
       told-nothing refl
       (judging (read-array c part b (h .array)) o
       (λ r. rw (read-since xs b n) (subst (IsWhole p (readOne c part b .part) (xs ++ (b ∷ []))) r (step-whole h b e))))
-  symbol-next {b = b} n (reads-too-long {c = c} _) (is-read o) s =
-      told-nothing refl (judging (read-array c part b (in-step-array s)) o (λ r. absurd (false≢true r)))
   symbol-next n sends-on sending-kept s = told-nothing refl (sending (in-step-array s))
   symbol-next n (takes-broadcast _) sending-kept s = told-nothing refl (releasing (in-step-array s))
   symbol-next n sends-whole sending-kept s = told-nothing refl (awaiting (in-step-array s))

@@ -20,7 +20,7 @@ use Rattle.station.specs.declared.phase.Phase.the-variants.{Silent, Reading, Se
 use Rattle.station.specs.declared.phase.Sound.{Sound}
 use Rattle.station.specs.declared.phase.Sound.the-variants.{Quiet, Symbol}
 use Rattle.station.specs.declared.phase.Failure.{Failure}
-use Rattle.station.specs.declared.phase.Failure.the-variants.{Disturbed, WrongAck, TwiceNak, SynHeard, PairBroken}
+use Rattle.station.specs.declared.phase.Failure.the-variants.{Disturbed, WrongAck, TwiceNak, SynHeard, PairBroken, OverLong}
 use Rattle.station.specs.declared.phase.Told.{Told}
 use Rattle.station.specs.declared.phase.Told.the-variants.{Owns}
 use Rattle.station.specs.declared.station.Station.{Station}
@@ -33,6 +33,7 @@ use Rattle.station.specs.Addressed.{forAll, answered, isOwn}
 use Rattle.station.specs.Table.{readerFails, whole, addressed, readOn, readOnAt, readsAs, reads, handedOut, judgedTaken, readAgain, judges, left, released, senderFails, hearBid, sentWhole, sent, hearOwnAs, hearOwn, taken, nakHeard, hearReply, row, hearReading, heardNothing, heardOther, ownerFails}
 use Rattle.station.specs.Hear.{hearQuiet, hearSymbol, hears}
 use Rattle.station.proofs.Aa.{NoSyn, quiet, symbol, heard-other}
+use Rattle.station.proofs.Turned.{SendsAa, after-5, after-5-long, owner-sends-aa}
 
 -- a master part that is judged is for one station
 abbrev pub ForOne : Part → Telegram → Type 0
@@ -86,6 +87,7 @@ module _ (x : Station) where
   owner-keeps TwiceNak = going _ _
   owner-keeps SynHeard = leaving _
   owner-keeps PairBroken = going _ _
+  owner-keeps OverLong = going _ _
 
   sender-keeps : (p : Part) (f : Failure) → Keeps (x .part) (senderFails p f x)
   sender-keeps MasterPart f = owner-keeps f
@@ -160,9 +162,9 @@ module _ (x : Station) where
   unfolding goes
   into q t o = record { read = refl; one = o }
 
-  vain-reads : (p : Part) → Reads (x .part) (readerFails p PairBroken x)
-  vain-reads MasterPart = into _ _ tt
-  vain-reads AnswerPart = into _ _ tt
+  vain-reads : (p : Part) {f : Failure} → SendsAa f → Reads (x .part) (readerFails p f x)
+  vain-reads MasterPart f = into _ _ tt
+  vain-reads AnswerPart f = rw (owner-sends-aa x f) (into _ _ tt)
 
   whole-reads : (p : Part) (a : Attempt) (m : Bool) → Reads (x .part) (whole x p a m)
   unfolding whole
@@ -187,11 +189,11 @@ module _ (x : Station) where
 
   outcome-reads : (o : Outcome) (c : Cursor) (p : Part) (a : Attempt) → Reads (x .part) (readsAs o x c p a)
   outcome-reads More c p a = readOn-reads c p a
-  outcome-reads Cut c p a = vain-reads p
-  outcome-reads NoMaster c p a = vain-reads p
-  outcome-reads Unusable c p a = vain-reads p
-  outcome-reads TooLong c p a = whole-reads p a false
-  outcome-reads BrokenPair c p a = vain-reads p
+  outcome-reads Cut c p a = vain-reads p after-5
+  outcome-reads NoMaster c p a = vain-reads p after-5
+  outcome-reads Unusable c p a = vain-reads p after-5
+  outcome-reads TooLong c p a = vain-reads p after-5-long
+  outcome-reads BrokenPair c p a = vain-reads p after-5
   outcome-reads (Whole m) c p a = whole-reads p a m
 
 reads-one : (x : Station) (b : ℕ) (c : Cursor) (p : Part) (a : Attempt) → Reads (readOne c (x .part) b .part) (reads x b c p a)

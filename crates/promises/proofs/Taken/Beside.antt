@@ -44,7 +44,7 @@ use Rattle.station.specs.declared.station.Station.{Station}
 use Rattle.station.specs.declared.station.Turn.{Turn}
 use Rattle.station.proofs.Aa.{NoSyn, quiet, symbol}
 use Rattle.station.proofs.Frame.{Begins, as-it-stood, answers as takes, ready-begins}
-use Rattle.station.proofs.Moves.{Moves, silent-on, owing-on, reading-waits, awaiting-waits, acknowledges, leaves-released, leaves-disturbed, stops-disturbed, wins, reads-on, not-for-it, reads-in-vain, breaks-answer, gives-broadcast, reads-whole, reads-too-long, sends-on, takes-broadcast, sends-whole, awaits-answer, ends-taken, answer-taken, sends-again, ends-failed, answer-failed, gives-and-owes, gives, gives-answer, reads-again, gives-nothing, answer-lost}
+use Rattle.station.proofs.Moves.{Moves, silent-on, owing-on, reading-waits, awaiting-waits, acknowledges, leaves-released, leaves-disturbed, stops-disturbed, wins, reads-on, not-for-it, reads-in-vain, breaks-answer, gives-broadcast, reads-whole, sends-on, takes-broadcast, sends-whole, awaits-answer, ends-taken, answer-taken, sends-again, ends-failed, answer-failed, gives-and-owes, gives, gives-answer, reads-again, gives-nothing, answer-lost}
 use Rattle.station.proofs.Possible.{Possible, InAnswer, no-pb, Fit, reading-answer, answer-goes-on, bids-at-start}
 use Rattle.station.proofs.Turned.{moves-of}
 use Rattle.promises.proofs.Shared.Arrays.{AllEntriesFull, answer-full}
@@ -99,7 +99,6 @@ enters reads-in-vain e f = refl
 enters breaks-answer e f = e
 enters (gives-broadcast _ _) e f = refl
 enters (reads-whole _) e f = e
-enters (reads-too-long _) e f = e
 enters sends-on e f = refl
 enters (takes-broadcast _) e f = f
 enters sends-whole e f = refl

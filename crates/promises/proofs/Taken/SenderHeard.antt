@@ -33,7 +33,7 @@ use Rattle.station.specs.declared.phase.Told.the-variants.{Silence}
 use Rattle.station.specs.declared.station.Station.{Station}
 use Rattle.station.specs.declared.station.Turn.{Turn}
 use Rattle.station.proofs.Aa.{quiet, symbol}
-use Rattle.station.proofs.Moves.{Moves, silent-on, owing-on, reading-waits, awaiting-waits, acknowledges, leaves-released, leaves-disturbed, stops-disturbed, wins, reads-on, not-for-it, reads-in-vain, breaks-answer, gives-broadcast, reads-whole, reads-too-long, sends-on, takes-broadcast, sends-whole, awaits-answer, ends-taken, answer-taken, sends-again, ends-failed, answer-failed, gives-and-owes, gives, gives-answer, reads-again, gives-nothing, answer-lost}
+use Rattle.station.proofs.Moves.{Moves, silent-on, owing-on, reading-waits, awaiting-waits, acknowledges, leaves-released, leaves-disturbed, stops-disturbed, wins, reads-on, not-for-it, reads-in-vain, breaks-answer, gives-broadcast, reads-whole, sends-on, takes-broadcast, sends-whole, awaits-answer, ends-taken, answer-taken, sends-again, ends-failed, answer-failed, gives-and-owes, gives, gives-answer, reads-again, gives-nothing, answer-lost}
 use Rattle.station.proofs.Possible.{Possible, bids-at-start}
 use Rattle.station.proofs.Turned.{moves-of}
 use Rattle.station.proofs.Waiting.{Kept}
@@ -60,7 +60,6 @@ keeps-other reads-in-vain e f = refl
 keeps-other breaks-answer e f = refl
 keeps-other (gives-broadcast _ _) e f = refl
 keeps-other (reads-whole _) e f = refl
-keeps-other (reads-too-long _) e f = refl
 keeps-other sends-on e f = e
 keeps-other (takes-broadcast _) e f = refl
 keeps-other sends-whole e f = e
