@@ -42,7 +42,7 @@ pub admitted-more : (a : ℕ) (m : Bool) (earlier : List (List Moment)) (now : L
 admitted-more a m earlier [] x = refl
 admitted-more a m earlier (y ∷ ms) x = refl
 
-symbols-more : (now : List Moment) (x : Moment) → symbolsIn (now ++ (x ∷ [])) ≡ symbolsIn now ++ symbolsIn (x ∷ [])
+pub symbols-more : (now : List Moment) (x : Moment) → symbolsIn (now ++ (x ∷ [])) ≡ symbolsIn now ++ symbolsIn (x ∷ [])
 symbols-more [] x = refl
 symbols-more (y ∷ ms) x = by (y .heard) (symbols-more ms x)
   where

@@ -20,7 +20,7 @@ use Rattle.history.specs.Share as share
 use Rattle.history.specs.Verdict.{Plainly, bytes, waits, broken, unexpanded, afterNn, verdict}
 use Rattle.history.specs.Observer.{silence, taken, given, answered, failed, failedFree, tellsOut, tellsNak, tellsRead, tellsFirst, tellsIn, cutShort}
 use Rattle.history.specs.Observer as observer
-use Rattle.history.specs.Failed.{numberIn, Fails, disturbed, disturbed-first, no-acknowledgement, answer-not-acknowledged, wrong-taken, nak-twice, answer-nak-twice, syn-heard, syn-in-answer, syn-after-answer, pair-broken}
+use Rattle.history.specs.Failed.{numberIn, Fails, disturbed, disturbed-first, no-acknowledgement, answer-not-acknowledged, wrong-taken, nak-twice, answer-nak-twice, syn-heard, syn-in-answer, syn-after-answer, pair-broken, over-long}
 
 -- what an answer can come to
 data InAnswer : Outcome → Type 0 where
@@ -119,7 +119,7 @@ module _ (book : Answers) where
           → numberIn (cond q (failedFree 4) (tellsRead o (asker t) (xs ++ (b ∷ [])))) ≡ k → Fails book k (share.reads (asker t) n xs) (Symbol b)
       by true o i j w e = it-is (syn-in-answer (eqb-true b 0xAA i)) e
       by false o i j goes-on e = none e l
-      by false o i j too-long e = none e l
+      by false o i j too-long e = it-is (over-long (eqb-false b 0xAA i) j) e
       by false o i j breaks e = it-is (pair-broken (eqb-false b 0xAA i) j) e
       by false o i j ends e = none e l
 
@@ -195,6 +195,7 @@ module _ (book : Answers) where
   then-told (syn-in-answer e) = rw e
   then-told (syn-after-answer e) = rw e
   then-told (pair-broken {b = b} n e) = rw (ne-eqb b 0xAA n, e)
+  then-told (over-long {b = b} n e) = rw (ne-eqb b 0xAA n, e)
 
   -- a station that reads a master part fails in nothing
   pub reader-never : {k : ℕ} {u : Share} {h : Sound} {a : ℕ} {m : Bool} {n : Time} {xs : List ℕ} → Fails book k u h → u ≡ share.reads (station a m) n xs → ⊥
@@ -209,3 +210,4 @@ module _ (book : Answers) where
   reader-never (syn-in-answer _) e = clash (cc)
   reader-never (syn-after-answer _) e = clash (cc)
   reader-never (pair-broken _ _) e = clash (cc)
+  reader-never (over-long _ _) e = clash (cc)

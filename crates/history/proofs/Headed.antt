@@ -1,17 +1,16 @@
 -- ZZ, PB and SB of a master part stand at their places among its symbols. Assumes nothing.
-use mathlib.Core.Path.{_≡_, refl, sym, ap, _∙_}
+use mathlib.Core.Path.{_≡_, refl}
 use mathlib.Core.Bool.{Bool, true, false, cond}
-use mathlib.Core.List.{List, [], _∷_, _++_}
+use mathlib.Core.List.{List, _∷_, _++_}
 use Prim.Native.Nat.{ℕ, _≤_}
 use native.Mathlib.Omega.{arith}
 use lib.Dec.{ltb}
 use lib.ListN.{length}
-use Rattle.address.specs.Master.{isMaster}
 use Rattle.wire.specs.Form.{covered, headOf}
 use Rattle.wire.specs.Pair.{undo}
 use Rattle.wire.specs.Reader.{more, ended, readQq, readNn, readByte, dataAs, readData, crcAs, readCrc, readHead, readAt, readPlace, readAs, readOne}
 use Rattle.wire.specs.declared.part.Part.the-variants.{MasterPart, AnswerPart}
-use Rattle.wire.specs.Symbol.{kindOf, isEscape, isCount}
+use Rattle.wire.specs.Symbol.{kindOf, isCount}
 use Rattle.wire.specs.declared.pair.Undone.{Undone}
 use Rattle.wire.specs.declared.pair.Undone.the-variants.{Byte, Opens, Broken}
 use Rattle.wire.specs.declared.part.Telegram.{Telegram}
@@ -19,11 +18,11 @@ use Rattle.wire.specs.declared.reader.Cursor.{Cursor}
 use Rattle.wire.specs.declared.reader.Place.{Place}
 use Rattle.wire.specs.declared.reader.Place.the-variants.{Qq, Zz, Pb, Sb, Nn, Data, Crc}
 use Rattle.wire.specs.declared.reader.Outcome.{Outcome}
-use Rattle.wire.specs.declared.reader.Outcome.the-variants.{Cut, NoMaster, Unusable, TooLong, BrokenPair}
+use Rattle.wire.specs.declared.reader.Outcome.the-variants.{Cut, TooLong, BrokenPair}
 use Rattle.wire.specs.declared.reader.Step.{Step}
 use Rattle.wire.specs.declared.symbol.Kind.{Kind}
 use Rattle.wire.specs.declared.symbol.Kind.the-variants.{Syn, Escape, Count, Plain}
-use Rattle.wire.proofs.SoFar.{SoFar, Upto, at-qq, at-zz, at-pb, at-sb, at-nn, at-data, at-crc, IsWhole}
+use Rattle.wire.proofs.SoFar.{SoFar, Upto, at-nn, at-data, at-crc, IsWhole}
 use Rattle.history.specs.Share.{zzIn, pbIn, sbIn}
 
 -- the symbols of a part from QQ to NN at least, and the telegram that they give
@@ -36,15 +35,6 @@ pub record Headed (xs : List ℕ) (p : Telegram) : Type 0 where
 headed : (p : Telegram) (n : ℕ) (ys : List ℕ) → Headed (headOf p ++ (n ∷ ys)) p
 headed p n ys = record { long = omega arith; zz = refl; pb = refl; sb = refl }
 
-other-head : {xs : List ℕ} {p q : Telegram} → headOf q ≡ headOf p → Headed xs p → Headed xs q
-other-head e w =
-    record {
-      long = w .long;
-      zz = w .zz ∙ ap zzIn (sym e);
-      pb = w .pb ∙ ap pbIn (sym e);
-      sb = w .sb ∙ ap sbIn (sym e);
-    }
-
 -- a whole part
 pub whole-headed : {p : Telegram} {xs : List ℕ} {right : Bool} → IsWhole MasterPart p xs right → Headed xs p
 unfolding covered
@@ -52,47 +42,24 @@ whole-headed {p} w = rw (w .symbols) (headed p _ _)
 
 -- ---- what a symbol gives, by its place
 
-record NotLong (t : Step) : Type 0 where
-  not-long : t .outcome ≡ TooLong → ⊥
-
 record SameHead (p : Telegram) (t : Step) : Type 0 where
   head : headOf (t .part) ≡ headOf p
 
--- before NN it is not too long, and from NN on QQ to SB stay
+-- from NN on QQ to SB stay
 abbrev Fate : Place → Telegram → Step → Type 0
-Fate Qq p t = NotLong t
-Fate Zz p t = NotLong t
-Fate Pb p t = NotLong t
-Fate Sb p t = NotLong t
+Fate Qq p t = Unit {0}
+Fate Zz p t = Unit {0}
+Fate Pb p t = Unit {0}
+Fate Sb p t = Unit {0}
 Fate Nn p t = SameHead p t
 Fate (Data i) p t = SameHead p t
 Fate Crc p t = SameHead p t
-
-either-long : (r : Bool) {u v : Step} → NotLong u → NotLong v → NotLong (cond r u v)
-either-long true y n = y
-either-long false y n = n
 
 either-head : (r : Bool) {p : Telegram} {u v : Step} → SameHead p u → SameHead p v → SameHead p (cond r u v)
 either-head true y n = y
 either-head false y n = n
 
 module _ (c : Cursor) (p : Telegram) (b : ℕ) where
-  more-long : (d : Cursor) (q : Telegram) → NotLong (more d q)
-  unfolding more
-  more-long d q = record { not-long = λ e. let z : _≡_ {A = ℕ} 0 1 = cc in omega arith }
-
-  no-master-long : NotLong (ended c p NoMaster)
-  unfolding ended
-  no-master-long = record { not-long = λ e. let z : _≡_ {A = ℕ} 0 1 = cc in omega arith }
-
-  unusable-long : NotLong (ended c p Unusable)
-  unfolding ended
-  unusable-long = record { not-long = λ e. let z : _≡_ {A = ℕ} 0 1 = cc in omega arith }
-
-  cut-long : NotLong (ended c p Cut)
-  unfolding ended
-  cut-long = record { not-long = λ e. let z : _≡_ {A = ℕ} 0 1 = cc in omega arith }
-
   ended-head : (o : Outcome) → SameHead p (ended c p o)
   unfolding ended
   ended-head o = record { head = refl }
@@ -113,20 +80,20 @@ module _ (c : Cursor) (p : Telegram) (b : ℕ) where
   crc-head Broken = ended-head BrokenPair
 
   cut-fate : (l : Place) → Fate l p (ended c p Cut)
-  cut-fate Qq = cut-long
-  cut-fate Zz = cut-long
-  cut-fate Pb = cut-long
-  cut-fate Sb = cut-long
+  cut-fate Qq = tt
+  cut-fate Zz = tt
+  cut-fate Pb = tt
+  cut-fate Sb = tt
   cut-fate Nn = ended-head Cut
   cut-fate (Data i) = ended-head Cut
   cut-fate Crc = ended-head Cut
 
   place-fate : (l : Place) (k : Kind) → Fate l p (readAt l c p b k)
   unfolding readQq readHead readNn readData readCrc
-  place-fate Qq k = either-long (isMaster b) (more-long _ _) no-master-long
-  place-fate Zz k = either-long (isEscape k) unusable-long (more-long _ _)
-  place-fate Pb k = either-long (isEscape k) unusable-long (more-long _ _)
-  place-fate Sb k = either-long (isEscape k) unusable-long (more-long _ _)
+  place-fate Qq k = tt
+  place-fate Zz k = tt
+  place-fate Pb k = tt
+  place-fate Sb k = tt
   place-fate Nn k = either-head (isCount k) (more-head _ _ refl) (ended-head TooLong)
   place-fate (Data i) k = data-head i (undo (c .opened) b)
   place-fate Crc k = crc-head (undo (c .opened) b)
@@ -141,25 +108,6 @@ module _ (c : Cursor) (p : Telegram) (b : ℕ) where
   fate : Fate (c .place) p (readOne c p b)
   unfolding readOne
   fate = kind-fate (kindOf b)
-
-one-more : {xs : List ℕ} {p : Telegram} (ys : List ℕ) (b : ℕ) → xs ≡ headOf p ++ ys → Headed (xs ++ (b ∷ [])) p
-one-more {p = p} [] b e = rw e (headed p b [])
-one-more {p = p} (y ∷ ys) b e = rw e (headed p y (ys ++ (b ∷ [])))
-
--- NN is too long: QQ to SB were read
-long-at : {register nn : ℕ} {p : Telegram} {xs : List ℕ} {l : Place} {o : Bool} (t : Step) (b : ℕ) → Upto register nn p xs MasterPart l o → Fate l p t
-    → t .outcome ≡ TooLong → Headed (xs ++ (b ∷ [])) (t .part)
-long-at t b (at-qq _ _) f e = absurd (f .not-long e)
-long-at t b (at-zz _ _ _) f e = absurd (f .not-long e)
-long-at t b (at-pb _ _ _ _) f e = absurd (f .not-long e)
-long-at t b (at-sb _ _ _ _ _) f e = absurd (f .not-long e)
-long-at {p = p} t b (at-nn _ x _) f e = other-head {p = p} (f .head) (one-more [] b x)
-long-at {p = p} t b (at-data _ _ x _) f e = other-head {p = p} (f .head) (one-more _ b x)
-long-at {p = p} t b (at-crc _ x _) f e = other-head {p = p} (f .head) (one-more _ b x)
-
-pub long-headed : {c : Cursor} {p : Telegram} {xs : List ℕ} (b : ℕ) → SoFar MasterPart c p xs → readOne c p b .outcome ≡ TooLong
-    → Headed (xs ++ (b ∷ [])) (readOne c p b .part)
-long-headed {c} {p} b h e = long-at (readOne c p b) b (h .upto) (fate c p b) e
 
 -- an answer leaves QQ to SB as they stood
 answer-at : {register nn : ℕ} {p : Telegram} {xs : List ℕ} {l : Place} {o : Bool} (t : Step) → Upto register nn p xs AnswerPart l o → Fate l p t

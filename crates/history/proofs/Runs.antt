@@ -179,9 +179,17 @@ wrongTwice = readers ++ symbols (0xAA ∷ 0x30 ∷ 0x08 ∷ 0x50 ∷ 0x02 ∷ 0x
 abbrev pub rightOnlyFirst : List Call
 rightOnlyFirst = readers ++ symbols (0xAA ∷ 0x30 ∷ 0x08 ∷ 0x50 ∷ 0x02 ∷ 0x00 ∷ 0x71 ∷ 0xFF ∷ 0x30 ∷ 0x08 ∷ 0x50 ∷ 0x02 ∷ 0x00 ∷ 0x70 ∷ []) ++ slots 2
 
--- NN 17 gets FF, and so does A9 as NN in the repeat
+-- NN 17: no FF; a sound part behind it is not read, and after AA it is
 abbrev pub tooLong : List Call
-tooLong = readers ++ symbols (0xAA ∷ 0x30 ∷ 0x08 ∷ 0x50 ∷ 0x02 ∷ 0x11 ∷ []) ++ slots 1 ++ symbols (0x30 ∷ 0x08 ∷ 0x50 ∷ 0x02 ∷ 0xA9 ∷ []) ++ slots 2
+tooLong = readers ++ symbols (0xAA ∷ 0x30 ∷ 0x08 ∷ 0x50 ∷ 0x02 ∷ 0x11 ∷ []) ++ slots 1 ++ symbols (0x30 ∷ 0x08 ∷ 0x50 ∷ 0x02 ∷ 0x00 ∷ 0x71 ∷ []) ++ slots 1 ++ symbols (0xAA ∷ 0x30 ∷ 0x08 ∷ 0x50 ∷ 0x02 ∷ 0x00 ∷ 0x71 ∷ []) ++ slots 1
+
+-- NN 255 to master 10, and then A9 as NN, at its slave address: no FF
+abbrev pub tooLongToMaster : List Call
+tooLongToMaster = readers ++ symbols (0xAA ∷ 0x30 ∷ 0x10 ∷ 0x50 ∷ 0x02 ∷ 0xFF ∷ []) ++ slots 2 ++ symbols (0xAA ∷ 0x30 ∷ 0x15 ∷ 0x50 ∷ 0x02 ∷ 0xA9 ∷ []) ++ slots 2
+
+-- a wrong CRC gets FF, and the repeat has NN 17: no FF
+abbrev pub tooLongAgain : List Call
+tooLongAgain = readers ++ symbols (0xAA ∷ 0x30 ∷ 0x08 ∷ 0x50 ∷ 0x02 ∷ 0x00 ∷ 0x70 ∷ []) ++ slots 1 ++ symbols (0x30 ∷ 0x08 ∷ 0x50 ∷ 0x02 ∷ 0x11 ∷ []) ++ slots 2
 
 -- NN 17 in a broadcast: silence
 abbrev pub tooLongToAll : List Call
@@ -257,9 +265,13 @@ wrongAnswer = asking ++ symbols (0x01 ∷ 0x64 ∷ 0xFE ∷ []) ++ slots 1 ++ sy
 abbrev pub wrongAnswerTaken : List Call
 wrongAnswerTaken = asking ++ symbols (0x01 ∷ 0x64 ∷ 0xFE ∷ 0x00 ∷ []) ++ slots 2
 
--- NN 17 gets FF, and again: failed 3 and AA
+-- NN 17 in the answer: failed 5 and AA
 abbrev pub tooLongAnswer : List Call
-tooLongAnswer = asking ++ symbols (0x11 ∷ []) ++ slots 1 ++ symbols (0x11 ∷ []) ++ slots 3
+tooLongAnswer = asking ++ symbols (0x11 ∷ []) ++ slots 2
+
+-- a wrong CRC gets FF, and the answer comes again with NN 255: failed 5 and AA
+abbrev pub tooLongAnswerAgain : List Call
+tooLongAnswerAgain = asking ++ symbols (0x01 ∷ 0x64 ∷ 0xFE ∷ []) ++ slots 1 ++ symbols (0xFF ∷ []) ++ slots 2
 
 -- A9 05 in the answer: failed 5 and AA
 abbrev pub brokenAnswer : List Call
@@ -299,9 +311,11 @@ runs =
     ∷ disturbed ∷ cutWhileSending ∷ answerDisturbed ∷ repeatDisturbed ∷ releaseLost ∷ releaseDisturbed ∷ entryChanged ∷ noEntry
     ∷ toMaster ∷ toMastersSlave ∷ toAll ∷ neverAcknowledged ∷ oldestFirst ∷ collision ∷ collisionThenQuiet ∷ twoSymbols
     ∷ marksGoOut ∷ nothingAfterSyn ∷ newcomer ∷ withdrawnReads ∷ firstAA ∷ beforeAA ∷ wonAtOnce ∷ wrongCrc
-    ∷ wrongCrcTaken ∷ wrongTwice ∷ rightOnlyFirst ∷ tooLong ∷ tooLongToAll ∷ sixteen ∷ toAllRight ∷ toAllWrong
+    ∷ wrongCrcTaken ∷ wrongTwice ∷ rightOnlyFirst ∷ tooLong ∷ tooLongToMaster ∷ tooLongAgain ∷ tooLongToAll ∷ sixteen
+    ∷ toAllRight ∷ toAllWrong
     ∷ noMaster ∷ ownAddress ∷ escapeAsZz ∷ escapeAsPb ∷ escapeAsSb ∷ elsewhere ∷ pairInData ∷ pairInCrc
-    ∷ brokenPair ∷ brokenPairInCrc ∷ masterRead ∷ wrongAnswer ∷ wrongAnswerTaken ∷ tooLongAnswer ∷ brokenAnswer ∷ brokenAnswersCrc
+    ∷ brokenPair ∷ brokenPairInCrc ∷ masterRead ∷ wrongAnswer ∷ wrongAnswerTaken ∷ tooLongAnswer ∷ tooLongAnswerAgain
+    ∷ brokenAnswer ∷ brokenAnswersCrc
     ∷ cutAfterEscape ∷ pairInAnswer ∷ nineQuiet ∷ synLost ∷ countedAnew ∷ []
 
 pub runs-agree : every agrees runs ≡ true

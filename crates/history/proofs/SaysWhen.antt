@@ -14,7 +14,7 @@ use Rattle.wire.specs.declared.part.Telegram.{Telegram}
 use Rattle.wire.proofs.SymbolKind.{clash}
 use Rattle.wire.proofs.Symbols.{answer-no-syn}
 use Rattle.station.specs.declared.phase.Phase.{Phase}
-use Rattle.station.specs.declared.phase.Sound.the-variants.{Symbol}
+use Rattle.station.specs.declared.phase.Sound.the-variants.{Quiet, Symbol}
 use Rattle.station.specs.declared.station.Station.{Station}
 use Rattle.bus.specs.declared.bus.Bus.{Bus}
 use Rattle.bus.specs.Bus.{poweredOn, attachedTo, turnAt}
@@ -136,5 +136,13 @@ module _ (cs : List Call) (bytes : ByteCalls cs) (i : ℕ) (attached : i < attac
   judge-says {r} {n} {xs} {matched} {just} j = by bids refl
     where
       by : (q : Bool) → bids ≡ q → saidBy (turnAt bus i) ≡ acknowledges matched just
+      by true e = let f = bids-first e in clash (cc)
+      by false e = in-turn ∙ rw (e, j)
+
+  -- nothing, where it has no share in the transfer
+  pub over-says : itsShare ≡ share.over → saidBy (turnAt bus i) ≡ Quiet
+  over-says j = by bids refl
+    where
+      by : (q : Bool) → bids ≡ q → saidBy (turnAt bus i) ≡ Quiet
       by true e = let f = bids-first e in clash (cc)
       by false e = in-turn ∙ rw (e, j)

@@ -81,7 +81,7 @@ read-other More r xs = record { not-owns = refl }
 read-other Cut r xs = owner-other r (record { not-owns = refl })
 read-other NoMaster r xs = owner-other r (record { not-owns = refl })
 read-other Unusable r xs = owner-other r (record { not-owns = refl })
-read-other TooLong r xs = record { not-owns = refl }
+read-other TooLong r xs = owner-other r (record { not-owns = refl })
 read-other BrokenPair r xs = owner-other r (record { not-owns = refl })
 read-other (Whole matched) r xs =
     either (readsForAll r xs) (either matched (record { not-owns = refl }) (record { not-owns = refl })) (record { not-owns = refl })
@@ -172,6 +172,16 @@ module _ (cs : List Call) (bytes : ByteCalls cs) (i : ℕ) (attached : i < attac
       by : (q : Bool) → Wins h ≡ q → (told h ≡ tellsIn itsShare (answersBy i cs) h) ⊎ ((told h ≡ owns) × (tellsIn itsShare (answersBy i cs) h ≡ silence))
       by true e = inr (in-turn h ∙ rw e, rw (before-won (momentIn (known i cs) h) (its .address) (its .master) (g .earlier) (g .now) e) (first-silent (answersBy i cs) (its .address) (its .master) once h))
       by false e = inl (in-turn h ∙ rw e)
+
+  -- but for who has read nothing yet, it is told what its share says
+  pub told-in : {u : Share} → itsShare ≡ u → (u ≡ share.reads (station (its .address) (its .master)) once [] → ⊥) → (h : Sound)
+      → told h ≡ tellsIn u (answersBy i cs) h
+  unfolding shareOf
+  told-in {u} j n h = by (Wins h) refl
+    where
+      by : (q : Bool) → Wins h ≡ q → told h ≡ tellsIn u (answersBy i cs) h
+      by true e = absurd (n (sym j ∙ before-won (momentIn (known i cs) h) (its .address) (its .master) (g .earlier) (g .now) e))
+      by false e = in-turn h ∙ rw (e, j)
 
   -- a report that is neither owns nor silence, exactly then
   exactly : (h : Sound) (r : Report) {P : Type 0} → (owns ≡ r → ⊥) → (silence ≡ r → ⊥) → (tellsIn itsShare (answersBy i cs) h ≡ r → P) → (P → tellsIn itsShare (answersBy i cs) h ≡ r)

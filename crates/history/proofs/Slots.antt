@@ -1,7 +1,7 @@
 -- One slot of one station, phase by phase, in the words of its share. Only this file looks into the station's definitions.
 -- Assumes nothing.
 use mathlib.Core.Path.{_≡_, refl, sym, ap, subst, subst₂, _∙_}
-use mathlib.Core.Bool.{Bool, true, false, not, cond, _||_, false≢true}
+use mathlib.Core.Bool.{Bool, true, false, not, cond, _||_}
 use mathlib.Core.List.{List, [], _∷_, _++_, append-assoc}
 use Prim.Native.Nat.{ℕ, _+_, _≤_}
 use native.Mathlib.Omega.{arith}
@@ -36,7 +36,7 @@ use Rattle.wire.proofs.Reached.{Reached, reached-none, reached-more, reached-so
 use Rattle.wire.proofs.SoFar.{SoFar, Upto, at-qq, at-zz, at-pb, at-sb, at-nn, at-data, at-crc, IsWhole}
 use Rattle.station.specs.Events.{numberOf}
 use Rattle.station.specs.Addressed.{isBroadcast, forAll, answered, isOwn}
-use Rattle.station.proofs.Turned.{SendsAa, after-2, after-3, owner-sends-aa}
+use Rattle.station.proofs.Turned.{SendsAa, after-2, after-3, after-5, after-5-long, owner-sends-aa}
 use Rattle.station.specs.Table.{readerFails, whole, addressed, readOn, readOnAt, readsAs, reads, handedOut, judgedTaken, readAgain, judges, left, released, senderFails, hearBid, sentWhole, sent, hearOwnAs, hearOwn, taken, nakHeard, hearReply, hearReading, row, heardNothing, heardOther, ownerFails}
 use Rattle.station.specs.Admission.{owned, withdrawn, bids, sayBid, admitsAfter, admits, sinceNext, overNow, noted}
 use Rattle.station.specs.Station.{due, answering, readyAt, ready, acknowledgement, saysAt, says}
@@ -51,7 +51,7 @@ use Rattle.station.specs.declared.phase.Attempt.the-variants.{First, Again}
 use Rattle.station.specs.declared.phase.Phase.{Phase}
 use Rattle.station.specs.declared.phase.Phase.the-variants.{Silent, Reading, Sending, Awaiting, Judging, Owing, Releasing}
 use Rattle.station.specs.declared.phase.Failure.{Failure}
-use Rattle.station.specs.declared.phase.Failure.the-variants.{Disturbed, WrongAck, TwiceNak, SynHeard, PairBroken}
+use Rattle.station.specs.declared.phase.Failure.the-variants.{Disturbed, WrongAck, TwiceNak, SynHeard, PairBroken, OverLong}
 use Rattle.station.specs.declared.phase.Told.{Told}
 use Rattle.station.specs.declared.phase.Told.the-variants.{Silence, Taken, Failed, Free, FailedFree, Given, Answered}
 use Rattle.station.specs.declared.phase.Sound.{Sound}
@@ -72,7 +72,7 @@ use Rattle.history.specs.Share.{Time, once, again, Sender, owner, slave,
 use Rattle.history.specs.Admission.{some}
 use Rattle.history.specs.Observer.{reportOf, Report, silence, owns, saysIn, tellsIn, tellsOut, tellsNak, tellsRead, tellsHanded, toOwner}
 use Rattle.history.specs.Observer as observer
-use Rattle.history.proofs.Headed.{whole-headed, long-headed, answer-head}
+use Rattle.history.proofs.Headed.{whole-headed, answer-head}
 use Rattle.history.proofs.Matches.{attempt, sentPart, readPart, Loaded, Named, HeadOf, Holds, Matches, MatchesIn, Comes}
 use Rattle.history.proofs.Matches as matches
 use Rattle.history.proofs.Verdicts.{verdict-next}
@@ -200,16 +200,14 @@ module _ (x : Station) (s : Sender) (n : Time) (w : Loaded s (x .out) (x .part))
 
 -- ---- who reads a part
 
-module _ (x : Station) (r : Reader) (n : Time) (named : Named r (x .address) (x .master) (x .part)) (full : Sixteen (x .part .load)) where
-  unread-comes : {f : Failure} → SendsAa f → Comes (fails r []) (toOwner r (observer.failed (numberOf f))) (readerFails (readPart r) f x)
-  unread-comes {f} a = by r
-    where
-      by : (r : Reader) → Comes (fails r []) (toOwner r (observer.failed (numberOf f))) (readerFails (readPart r) f x)
-      by (station _ m) = going x Silent Silence matches.is-over refl
-      by (asker t) = rw (owner-sends-aa x a) (going x Releasing (Failed f) matches.is-releases refl)
+-- who comes to nothing: an owner is told failed and sends AA, any other station is silent
+unread-comes : (x : Station) (r : Reader) {f : Failure} → SendsAa f → Comes (fails r []) (toOwner r (observer.failed (numberOf f))) (readerFails (readPart r) f x)
+unread-comes x (station a m) v = going x Silent Silence matches.is-over refl
+unread-comes x (asker t) {f} v = rw (owner-sends-aa x v) (going x Releasing (Failed f) matches.is-releases refl)
 
+module _ (x : Station) (r : Reader) (n : Time) (named : Named r (x .address) (x .master) (x .part)) (full : Sixteen (x .part .load)) where
   reread-comes : Comes (rereads r n []) (toOwner r (tellsNak n)) (readAgain (attempt n) x (readPart r))
-  reread-comes = by r n named (unread-comes after-3)
+  reread-comes = by r n named (unread-comes x r after-3)
     where
       by : (r : Reader) (n : Time) → Named r (x .address) (x .master) (x .part) → Comes (fails r []) (toOwner r (observer.failed 3)) (readerFails (readPart r) TwiceNak x)
           → Comes (rereads r n []) (toOwner r (tellsNak n)) (readAgain (attempt n) x (readPart r))
@@ -225,7 +223,7 @@ module _ (x : Station) (r : Reader) (n : Time) (named : Named r (x .address) (x 
   handed-comes : (xs : List ℕ) (matched : Bool) → Holds r xs matched (x .part)
       → Comes (handed r xs matched []) (tellsHanded r matched) (judgedTaken x (readPart r) matched)
   unfolding judgedTaken handedOut answered
-  handed-comes xs matched h = by r matched (h .head) (unread-comes after-2)
+  handed-comes xs matched h = by r matched (h .head) (unread-comes x r after-2)
     where
       by : (r : Reader) (matched : Bool) → HeadOf r xs (x .part) → Comes (fails r []) (toOwner r (observer.failed 2)) (readerFails (readPart r) WrongAck x)
           → Comes (handed r xs matched []) (tellsHanded r matched) (judgedTaken x (readPart r) matched)
@@ -245,7 +243,7 @@ module _ (x : Station) (r : Reader) (n : Time) (named : Named r (x .address) (x 
       (judges x b (readPart r) (attempt n) matched)
   unfolding judges
   judge-comes b xs matched h =
-      by-test (eqb b 0x00) (λ _. handed-comes xs matched h) (λ _. by-test (eqb b 0xFF) (λ _. reread-comes) (λ _. unread-comes after-2))
+      by-test (eqb b 0x00) (λ _. handed-comes xs matched h) (λ _. by-test (eqb b 0xFF) (λ _. reread-comes) (λ _. unread-comes x r after-2))
 
 -- ZZ has been read, and is for this station or not
 module _ (x : Station) (n : Time) (xs : List ℕ) (c : Cursor) (p₀ : Telegram) (full : Sixteen (p₀ .load)) (reached : Reached masterStart p₀ xs c (x .part)) where
@@ -327,16 +325,17 @@ module _ (x : Station) (t : Telegram) (n : Time) (xs : List ℕ) (c : Cursor) (p
 
 -- ---- one symbol more of a part that is read
 
-broken-comes : (x : Station) (r : Reader) (ys : List ℕ)
-    → Comes (cond (readsOn r ys) (fails r []) share.over) (toOwner r (observer.failed 5)) (readerFails (readPart r) PairBroken x)
-broken-comes x (asker t) ys = going x Releasing (Failed PairBroken) matches.is-releases refl
-broken-comes x (station a m) ys = by (forIt a m ys)
+-- it comes to nothing
+vain-comes : (x : Station) (r : Reader) (ys : List ℕ) {f : Failure} → SendsAa f
+    → Comes (cond (readsOn r ys) (fails r []) share.over) (toOwner r (observer.failed (numberOf f))) (readerFails (readPart r) f x)
+vain-comes x (asker t) ys v = unread-comes x (asker t) v
+vain-comes x (station a m) ys v = by (forIt a m ys)
   where
     by : (q : Bool) → Comes (cond q share.over share.over) silence (goes x Silent Silence)
-    by true = going x Silent Silence matches.is-over refl
-    by false = going x Silent Silence matches.is-over refl
+    by true = unread-comes x (station a m) v
+    by false = unread-comes x (station a m) v
 
--- a whole part, or one that is too long
+-- a whole part
 module _ (x : Station) (n : Time) (ys : List ℕ) (matched : Bool) where
   station-whole : readsOn (station (x .address) (x .master)) ys ≡ true → Holds (station (x .address) (x .master)) ys matched (x .part)
       → Comes (cond (readsOn (station (x .address) (x .master)) ys) (cond (toAll (zzIn ys)) share.over (share.judges (station (x .address) (x .master)) n ys matched true)) share.over)
@@ -379,17 +378,10 @@ module _ (x : Station) (n : Time) (xs : List ℕ) (b : ℕ) (clear : b ≡ 0xAA 
         part-on read n xs b (readOne c (x .part) b .cursor) p₀ full (reached-more masterStart c p₀ (x .part) xs b reached e) keen
         (step-more (reached-so-far MasterPart c p₀ (x .part) xs full reached) b e)
     station-reads Cut e = absurd (clear (cut-on-syn c (x .part) b .0 e))
-    station-reads NoMaster e = broken-comes read self ys
-    station-reads Unusable e = broken-comes read self ys
-    station-reads BrokenPair e = broken-comes read self ys
-    station-reads TooLong e =
-        let h = long-headed b (reached-so-far MasterPart c p₀ (x .part) xs full reached) e in
-        let w = station-whole read n ys false (keen-more self xs b keen (omega (arith, h .long))) (record { head = h; form = λ i. absurd (false≢true i) }) in
-        either-silent (toAll (zzIn ys)) w
-      where
-        either-silent : (q : Bool) {u : Share} {t : Turn} → Comes u (cond q (cond false observer.given silence) silence) t → Comes u silence t
-        either-silent true w = w
-        either-silent false w = w
+    station-reads NoMaster e = vain-comes read self ys after-5
+    station-reads Unusable e = vain-comes read self ys after-5
+    station-reads BrokenPair e = vain-comes read self ys after-5
+    station-reads TooLong e = vain-comes read self ys after-5-long
     station-reads (Whole matched) e =
         let h = step-whole (reached-so-far MasterPart c p₀ (x .part) xs full reached) b e in
         station-whole read n ys matched (keen-more self xs b keen (omega (arith, whole-headed h .long)))
@@ -415,10 +407,10 @@ module _ (x : Station) (n : Time) (xs : List ℕ) (b : ℕ) (clear : b ≡ 0xAA 
         answer-on read t n ys (readOne c (x .part) b .cursor) p₀ full (reached-more answerStart c p₀ (x .part) xs b reached e) same-zz
         (step-more so-far b e)
     asker-reads Cut e = absurd (clear (cut-on-syn c (x .part) b .0 e))
-    asker-reads NoMaster e = broken-comes read (asker t) ys
-    asker-reads Unusable e = broken-comes read (asker t) ys
-    asker-reads BrokenPair e = broken-comes read (asker t) ys
-    asker-reads TooLong e = answer-whole read n ys false t same-zz (record { head = tt; form = λ i. absurd (false≢true i) })
+    asker-reads NoMaster e = vain-comes read (asker t) ys after-5
+    asker-reads Unusable e = vain-comes read (asker t) ys after-5
+    asker-reads BrokenPair e = vain-comes read (asker t) ys after-5
+    asker-reads TooLong e = vain-comes read (asker t) ys after-5-long
     asker-reads (Whole matched) e =
         answer-whole read n ys matched t same-zz (record { head = tt; form = matched-form (step-whole so-far b e) })
 
@@ -747,6 +739,7 @@ module _ (x : Station) where
   owner-keeps TwiceNak = stays _ _
   owner-keeps SynHeard = leaves _
   owner-keeps PairBroken = stays _ _
+  owner-keeps OverLong = stays _ _
 
   sender-keeps : (p : Part) (f : Failure) → Keeps x (senderFails p f x)
   sender-keeps MasterPart f = owner-keeps f
@@ -826,7 +819,7 @@ module _ (x : Station) where
   outcome-keeps Cut c p a = reader-keeps p PairBroken
   outcome-keeps NoMaster c p a = reader-keeps p PairBroken
   outcome-keeps Unusable c p a = reader-keeps p PairBroken
-  outcome-keeps TooLong c p a = whole-keeps p a false
+  outcome-keeps TooLong c p a = reader-keeps p OverLong
   outcome-keeps BrokenPair c p a = reader-keeps p PairBroken
   outcome-keeps (Whole matched) c p a = whole-keeps p a matched
 

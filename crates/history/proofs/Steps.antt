@@ -13,7 +13,7 @@ use Rattle.station.specs.declared.phase.Sound.{Sound}
 use Rattle.station.specs.declared.phase.Sound.the-variants.{Quiet, Symbol}
 use Rattle.history.specs.Moments.{Moment, bySound, isSymbol}
 use Rattle.history.specs.Verdict.{verdict}
-use Rattle.history.specs.Share.{Time, once, again, Sender, owner, slave, Reader, station, asker, Share, over, releases, sends, awaits, reads, judges, owes, toAll, whichOf, zzIn, pbIn, sbIn, readsOn, readsForAll, released, silent, ends, fails, sent, acknowledged, ifMore, read, byEnd, answerOut, answerAgain, answerSent, answers, handed, wholeRead, readSoFar, readEnded, readAgain, partRead, ownTaken, ownOut, ownAgain, ownSent}
+use Rattle.history.specs.Share.{Time, once, again, Sender, owner, slave, Reader, station, asker, Share, over, releases, sends, awaits, reads, judges, owes, toAll, whichOf, zzIn, pbIn, sbIn, readsOn, readsForAll, released, silent, ends, fails, sent, acknowledged, ifMore, read, End, wholly, in-vain, endOf, byEnd, answerOut, answerAgain, answerSent, answers, handed, wholeRead, readSoFar, readEnded, readAgain, partRead, ownTaken, ownOut, ownAgain, ownSent}
 
 -- ---- the continuations, by sender and reader
 
@@ -74,7 +74,8 @@ module _ (x : Moment) where
 
   fails-steps : (r : Reader) → Steps x (fails r)
   fails-steps (station a m) ms = record { goes = refl }
-  fails-steps (asker t) ms = released-steps ms
+  fails-steps (asker t) [] = record { goes = refl }
+  fails-steps (asker t) (m ∷ ms) = record { goes = refl }
 
   -- an acknowledgement
   module _ (waits : Bool → Share) (ack nak other : List Moment → Share) (a : Steps x ack) (n : Steps x nak) (o : Steps x other)
@@ -124,17 +125,12 @@ module _ (x : Moment) where
       (acknowledged-steps (judges r n xs matched) (handed r xs matched) (rereads r n) (fails r) (handed-steps r xs matched) f (fails-steps r) (λ _. refl) true ms)
 
   ended-steps : (r : Reader) (n : Time) → Steps x (rereads r n) → (v : Outcome) (xs : List ℕ) → Steps x (readEnded r n (rereads r n) v xs)
-  ended-steps r n f v xs ms = by-test (readsOn r xs) (go v) (record { goes = refl })
+  ended-steps r n f v xs ms = by-test (readsOn r xs) (go (endOf v)) (record { goes = refl })
     where
-      go : (v : Outcome) → Goes x (byEnd v (wholeRead r n (rereads r n) xs ms) (fails r ms))
-          (byEnd v (wholeRead r n (rereads r n) xs (ms ++ (x ∷ []))) (fails r (ms ++ (x ∷ []))))
-      go More = fails-steps r ms
-      go Cut = fails-steps r ms
-      go NoMaster = fails-steps r ms
-      go Unusable = fails-steps r ms
-      go TooLong = whole-steps r n f xs false ms
-      go BrokenPair = fails-steps r ms
-      go (Whole matched) = whole-steps r n f xs matched ms
+      go : (e : End) → Goes x (byEnd e (wholeRead r n (rereads r n) xs ms) (fails r ms))
+          (byEnd e (wholeRead r n (rereads r n) xs (ms ++ (x ∷ []))) (fails r (ms ++ (x ∷ []))))
+      go (wholly matched) = whole-steps r n f xs matched ms
+      go in-vain = fails-steps r ms
 
   by-more : (v : Outcome) {u c u′ c′ : Share} → Goes x u u′ → Goes x c c′ → Goes x (ifMore v u c) (ifMore v u′ c′)
   by-more More e f = e

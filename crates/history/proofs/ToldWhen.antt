@@ -109,7 +109,7 @@ module _ (book : Answers) where
       of Cut = told-failed 4
       of NoMaster = told-failed 5
       of Unusable = told-failed 5
-      of TooLong = told-silence
+      of TooLong = told-failed 5
       of BrokenPair = told-failed 5
       of (Whole matched) = told-silence
 
@@ -173,6 +173,7 @@ module _ (book : Answers) where
   then-leaves (fail.syn-in-answer i) o e = rw i
   then-leaves (fail.syn-after-answer i) o e = rw i
   then-leaves (fail.pair-broken _ _) o e = ⊎-elim (λ z. absurd (omega arith)) (λ z. absurd (omega arith)) e
+  then-leaves (fail.over-long _ _) o e = ⊎-elim (λ z. absurd (omega arith)) (λ z. absurd (omega arith)) e
 
   pub then-free : {u : Share} {h : Sound} → Leaves book u h → isFree (tellsIn u book h) ≡ true
   then-free by.released = refl

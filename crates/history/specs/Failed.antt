@@ -7,7 +7,7 @@ use Prim.Native.Nat.{ℕ}
 use Rattle.wire.specs.Form.{answerForm}
 use Rattle.wire.specs.declared.part.Part.the-variants.{AnswerPart}
 use Rattle.wire.specs.declared.part.Telegram.{Telegram}
-use Rattle.wire.specs.declared.reader.Outcome.the-variants.{BrokenPair}
+use Rattle.wire.specs.declared.reader.Outcome.the-variants.{TooLong, BrokenPair}
 use Rattle.station.specs.declared.phase.Sound.{Sound}
 use Rattle.station.specs.declared.phase.Sound.the-variants.{Symbol}
 use Rattle.history.specs.Moments.{Answers, isSymbol}
@@ -53,4 +53,7 @@ pub data Fails (book : Answers) : ℕ → Share → Sound → Type 0 where
   syn-after-answer : {t : Telegram} {n : Time} {xs : List ℕ} {matched just : Bool} {b : ℕ} → b ≡ 0xAA → Fails book 4 (judges (asker t) n xs matched just) (Symbol b)
   -- 5: the owner reads an A9 in an answer, and another symbol than 00, 01 or AA behind it
   pair-broken : {t : Telegram} {n : Time} {xs : List ℕ} {b : ℕ} → b ≢ 0xAA → verdict AnswerPart (xs ++ (b ∷ [])) ≡ BrokenPair
+      → Fails book 5 (reads (asker t) n xs) (Symbol b)
+  -- 5: the owner reads an NN above 16 in an answer
+  over-long : {t : Telegram} {n : Time} {xs : List ℕ} {b : ℕ} → b ≢ 0xAA → verdict AnswerPart (xs ++ (b ∷ [])) ≡ TooLong
       → Fails book 5 (reads (asker t) n xs) (Symbol b)

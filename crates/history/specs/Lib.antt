@@ -1,6 +1,7 @@
 pub mod Moments
 pub mod Verdict
 pub mod Share
+pub mod SinceAa
 pub mod Admission
 pub mod Observer
 pub mod Lines

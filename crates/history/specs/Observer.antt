@@ -117,13 +117,13 @@ abbrev pub handsOut : Reader → Report
 handsOut (station a m) = given
 handsOut (asker t) = answered
 
--- a whole broadcast is handed out at once if its CRC matched; failed 5: an owner reads a broken pair in an answer
+-- a whole broadcast is handed out at once if its CRC matched; failed 5: an owner reads a broken pair or an NN above 16 in an answer
 abbrev pub tellsRead : Outcome → Reader → List ℕ → Report
 tellsRead More r xs = silence
 tellsRead Cut r xs = toOwner r (failed 4)
 tellsRead NoMaster r xs = toOwner r (failed 5)
 tellsRead Unusable r xs = toOwner r (failed 5)
-tellsRead TooLong r xs = silence
+tellsRead TooLong r xs = toOwner r (failed 5)
 tellsRead BrokenPair r xs = toOwner r (failed 5)
 tellsRead (Whole matched) r xs = cond (readsForAll r xs) (cond matched given silence) silence
 

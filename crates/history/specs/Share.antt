@@ -142,15 +142,24 @@ read w soFar ended xs (m ∷ ms) =
     (λ s. ifMore (verdict w (xs ++ (s ∷ []))) (read w soFar ended (xs ++ (s ∷ [])) ms)
     (ended (verdict w (xs ++ (s ∷ []))) (xs ++ (s ∷ [])) ms))
 
--- a part with an NN above 16 is as one with a wrong CRC; any other end but a whole part comes to nothing
-abbrev pub byEnd : Outcome → (Bool → Share) → Share → Share
-byEnd More whole broken = broken
-byEnd Cut whole broken = broken
-byEnd NoMaster whole broken = broken
-byEnd Unusable whole broken = broken
-byEnd TooLong whole broken = whole false
-byEnd BrokenPair whole broken = broken
-byEnd (Whole matched) whole broken = whole matched
+-- how a part comes to its end: whole, and whether its CRC matched; or in vain
+pub data End : Type 0 where
+  wholly : Bool → End
+  in-vain : End
+
+-- an NN above 16 is in vain (02, E3)
+abbrev pub endOf : Outcome → End
+endOf More = in-vain
+endOf Cut = in-vain
+endOf NoMaster = in-vain
+endOf Unusable = in-vain
+endOf TooLong = in-vain
+endOf BrokenPair = in-vain
+endOf (Whole matched) = wholly matched
+
+abbrev pub byEnd : End → (Bool → Share) → Share → Share
+byEnd (wholly matched) whole broken = whole matched
+byEnd in-vain whole broken = broken
 
 -- ---- a slave's answer, from its reply entry as the slot after 00 begins; the same again after FF
 
@@ -183,7 +192,7 @@ abbrev pub readSoFar : Reader → Time → List ℕ → Share
 readSoFar r n xs = cond (readsOn r xs) (reads r n xs) over
 
 abbrev pub readEnded : Reader → Time → (List Moment → Share) → Outcome → List ℕ → List Moment → Share
-readEnded r n onNak v xs ms = cond (readsOn r xs) (byEnd v (wholeRead r n onNak xs ms) (fails r ms)) over
+readEnded r n onNak v xs ms = cond (readsOn r xs) (byEnd (endOf v) (wholeRead r n onNak xs ms) (fails r ms)) over
 
 abbrev pub readAgain : Reader → List Moment → Share
 readAgain r ms = read (whichOf r) (readSoFar r again) (readEnded r again (fails r)) [] ms
