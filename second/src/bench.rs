@@ -27,6 +27,9 @@ impl Bench {
             self.coverage.event(event);
             lines::push_event(&mut self.out, self.bus.table(), event);
         }
+        for &place in self.bus.over_long() {
+            self.coverage.over_long(place);
+        }
         self.bus.forget_events();
     }
 

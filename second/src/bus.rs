@@ -4,7 +4,7 @@
 //! sets of stations (admitted, marked, still reading) and the generator's
 //! count, and derives from them who sends and who is told what.
 
-use crate::event::{Event, Role, Word};
+use crate::event::{Event, Failure, OverLong, Role, Word};
 use crate::intake::{Fed, Intake};
 use crate::table::{Refusal, Table};
 use crate::transfer::{Stage, Transfer};
@@ -21,6 +21,7 @@ pub struct Bus {
     table: Table,
     transfer: Transfer,
     events: Vec<Event>,
+    over_long: Vec<OverLong>,
     slot: u32,
     has_run: bool,
     quiet: u8,
@@ -43,12 +44,21 @@ fn members(mut set: u32) -> impl Iterator<Item = u8> {
     })
 }
 
+/// What a verdict comes to that is neither 00 nor the first FF.
+fn verdict_failure(symbol: u8) -> Failure {
+    match symbol {
+        NAK => Failure::RefusedTwice,
+        _ => Failure::NoVerdict,
+    }
+}
+
 impl Bus {
     pub fn new() -> Bus {
         Bus {
             table: Table::new(),
             transfer: Transfer::silence(),
             events: Vec::new(),
+            over_long: Vec::new(),
             slot: 0,
             has_run: false,
             quiet: 0,
@@ -97,8 +107,14 @@ impl Bus {
         &self.events
     }
 
+    /// Each NN above 16 that somebody in step has read.
+    pub fn over_long(&self) -> &[OverLong] {
+        &self.over_long
+    }
+
     pub fn forget_events(&mut self) {
         self.events.clear();
+        self.over_long.clear();
     }
 
     /// Masters that will send their QQ in the coming slot.
@@ -220,15 +236,15 @@ impl Bus {
         }
     }
 
-    fn owner_fails(&mut self, number: u8) {
+    fn owner_fails(&mut self, failure: Failure) {
         if let Some(owner) = self.transfer.owner {
-            self.tell(owner, Word::Failed(Role::Owner, number));
+            self.tell(owner, Word::Failed(Role::Owner, failure));
         }
     }
 
-    fn slave_fails(&mut self, number: u8) {
+    fn slave_fails(&mut self, failure: Failure) {
         if let Some(slave) = self.transfer.slave.take() {
-            self.tell(slave, Word::Failed(Role::Slave, number));
+            self.tell(slave, Word::Failed(Role::Slave, failure));
         }
     }
 
@@ -238,12 +254,12 @@ impl Bus {
         self.transfer.ack_due = false;
         match self.transfer.stage {
             Stage::Part => {
-                self.owner_fails(1);
+                self.owner_fails(Failure::NotItsOwn);
                 self.owner_leaves();
                 self.transfer.abandon_if_deserted();
             }
             Stage::Answer => {
-                self.slave_fails(1);
+                self.slave_fails(Failure::NotItsOwn);
                 self.transfer.abandon_if_deserted();
             }
             Stage::Release => self.released(),
@@ -259,15 +275,15 @@ impl Bus {
     /// SYN ends whatever was under way and opens the admission.
     fn hear_syn(&mut self) {
         match self.transfer.stage {
-            Stage::Part => self.owner_fails(1),
-            Stage::PartVerdict => self.owner_fails(4),
+            Stage::Part => self.owner_fails(Failure::NotItsOwn),
+            Stage::PartVerdict => self.owner_fails(Failure::Syn),
             Stage::Answer => {
-                self.owner_fails(4);
-                self.slave_fails(1);
+                self.owner_fails(Failure::Syn);
+                self.slave_fails(Failure::NotItsOwn);
             }
             Stage::AnswerVerdict => {
-                self.owner_fails(4);
-                self.slave_fails(4);
+                self.owner_fails(Failure::Syn);
+                self.slave_fails(Failure::Syn);
             }
             Stage::Release | Stage::Silence => {}
         }
@@ -320,7 +336,7 @@ impl Bus {
             if self.transfer.part.at(self.transfer.part_sent) == symbol {
                 self.transfer.part_sent += 1;
             } else {
-                self.owner_fails(1);
+                self.owner_fails(Failure::NotItsOwn);
                 self.owner_leaves();
             }
         }
@@ -331,8 +347,17 @@ impl Bus {
             Fed::More => {}
             Fed::Target => self.narrow_readers(),
             Fed::Broken => self.transfer.wind_up(),
+            Fed::OverLong => self.hear_over_long(),
             Fed::Whole(sound) => self.part_is_over(sound),
         }
+    }
+
+    /// Nobody acknowledges. An owner is still there only if this is an answer:
+    /// its own NN it hears as it sent it, or it has failed.
+    fn hear_over_long(&mut self) {
+        self.over_long.push(self.transfer.over_long());
+        self.owner_fails(Failure::OverLong);
+        self.transfer.wind_up();
     }
 
     /// With the target known, all it does not name fall silent.
@@ -374,7 +399,7 @@ impl Bus {
             ACK => self.part_is_taken(),
             NAK if !self.transfer.part_repeated => self.transfer.repeat_part(),
             other => {
-                self.owner_fails(if other == NAK { 3 } else { 2 });
+                self.owner_fails(verdict_failure(other));
                 self.transfer.wind_up();
             }
         }
@@ -403,7 +428,7 @@ impl Bus {
             if self.transfer.reply.at(self.transfer.reply_sent) == symbol {
                 self.transfer.reply_sent += 1;
             } else {
-                self.slave_fails(1);
+                self.slave_fails(Failure::NotItsOwn);
             }
         }
         if self.transfer.abandon_if_deserted() {
@@ -412,9 +437,10 @@ impl Bus {
         match self.transfer.heard_answer.feed(symbol) {
             Fed::More | Fed::Target => {}
             Fed::Broken => {
-                self.owner_fails(5);
+                self.owner_fails(Failure::BrokenPair);
                 self.transfer.wind_up();
             }
+            Fed::OverLong => self.hear_over_long(),
             Fed::Whole(sound) => {
                 self.transfer.stage = Stage::AnswerVerdict;
                 self.transfer.sound = sound;
@@ -429,9 +455,8 @@ impl Bus {
             ACK => self.answer_is_taken(),
             NAK if !self.transfer.answer_repeated => self.transfer.repeat_answer(),
             other => {
-                let number = if other == NAK { 3 } else { 2 };
-                self.owner_fails(number);
-                self.slave_fails(number);
+                self.owner_fails(verdict_failure(other));
+                self.slave_fails(verdict_failure(other));
                 self.transfer.wind_up();
             }
         }
@@ -447,7 +472,7 @@ impl Bus {
                 let slave = self.transfer.heard_part.target();
                 Word::Answer { slave, part: self.transfer.heard_answer }
             } else {
-                Word::Failed(Role::Owner, 2)
+                Word::Failed(Role::Owner, Failure::NoVerdict)
             };
             self.tell(owner, word);
         }

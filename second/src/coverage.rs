@@ -1,10 +1,10 @@
-//! How often each event and each refusal came up.
+//! How often each event, each refusal and each NN above 16 came up.
 
-use crate::event::{Event, Role, Word};
+use crate::event::{Event, OverLong, Role, Word};
 use std::fmt;
 
 /// There is no refusal 13.
-const NAMES: [&str; 30] = [
+const NAMES: [&str; 36] = [
     "owns",
     "taken-owner",
     "taken-slave",
@@ -12,7 +12,8 @@ const NAMES: [&str; 30] = [
     "failed-owner-2",
     "failed-owner-3",
     "failed-owner-4",
-    "failed-owner-5",
+    "failed-owner-5-pair",
+    "failed-owner-5-over-long",
     "failed-slave-1",
     "failed-slave-2",
     "failed-slave-3",
@@ -35,19 +36,35 @@ const NAMES: [&str; 30] = [
     "refused-12",
     "refused-14",
     "refused-15",
+    "over-long-part",
+    "over-long-part-repeated",
+    "over-long-broadcast",
+    "over-long-answer",
+    "over-long-answer-repeated",
 ];
 
-const FAILED_OWNER: usize = 2;
-const FAILED_SLAVE: usize = 7;
-const REFUSED: usize = 15;
+/// Before refusal 1.
+const REFUSED: usize = 16;
+
+/// The first of each group; the others stand in the order of their enum.
+const FAILED_OWNER: usize = 3;
+const FAILED_SLAVE: usize = 9;
+const OVER_LONG: usize = 31;
 
 /// The longest part has 39 symbols, so nothing exceeds the wire buffer.
 const UNREACHABLE: &str = "refused-6";
 
-#[derive(Clone, Default)]
+#[derive(Clone)]
 pub struct Coverage {
     scenarios: u64,
     counts: [u64; NAMES.len()],
+}
+
+/// By hand, because it cannot be derived for more than 32 counts.
+impl Default for Coverage {
+    fn default() -> Coverage {
+        Coverage { scenarios: 0, counts: [0; NAMES.len()] }
+    }
 }
 
 fn place_of(event: &Event) -> usize {
@@ -55,12 +72,12 @@ fn place_of(event: &Event) -> usize {
         Word::Owns => 0,
         Word::Taken(Role::Owner) => 1,
         Word::Taken(Role::Slave) => 2,
-        Word::Failed(Role::Owner, number) => FAILED_OWNER + number as usize,
-        Word::Failed(Role::Slave, number) => FAILED_SLAVE + number as usize,
-        Word::Free => 12,
-        Word::Given { broadcast: false, .. } => 13,
-        Word::Given { broadcast: true, .. } => 14,
-        Word::Answer { .. } => 15,
+        Word::Failed(Role::Owner, failure) => FAILED_OWNER + failure as usize,
+        Word::Failed(Role::Slave, failure) => FAILED_SLAVE + failure as usize,
+        Word::Free => 13,
+        Word::Given { broadcast: false, .. } => 14,
+        Word::Given { broadcast: true, .. } => 15,
+        Word::Answer { .. } => 16,
     }
 }
 
@@ -76,6 +93,10 @@ impl Coverage {
     pub fn refusal(&mut self, number: u8) {
         let without_13 = if number > 13 { number - 1 } else { number };
         self.counts[REFUSED + without_13 as usize] += 1;
+    }
+
+    pub fn over_long(&mut self, place: OverLong) {
+        self.counts[OVER_LONG + place as usize] += 1;
     }
 
     pub fn add(&mut self, other: &Coverage) {

@@ -10,11 +10,47 @@ pub enum Role {
     Slave,
 }
 
+/// Why a sender or an owner is told failed. Two causes have the number 5.
+#[derive(Clone, Copy, PartialEq, Eq, Debug)]
+pub enum Failure {
+    /// Something else was heard than the symbol sent, or quiet.
+    NotItsOwn,
+    /// The acknowledgement was no acknowledgement, or 00 for a wrong CRC.
+    NoVerdict,
+    RefusedTwice,
+    Syn,
+    BrokenPair,
+    OverLong,
+}
+
+impl Failure {
+    pub fn number(self) -> u8 {
+        match self {
+            Failure::NotItsOwn => 1,
+            Failure::NoVerdict => 2,
+            Failure::RefusedTwice => 3,
+            Failure::Syn => 4,
+            Failure::BrokenPair | Failure::OverLong => 5,
+        }
+    }
+}
+
+/// Where an NN above 16 was read. Silent readers are told nothing, so this is
+/// no event; the coverage counts it.
+#[derive(Clone, Copy, PartialEq, Eq, Debug)]
+pub enum OverLong {
+    Part,
+    PartRepeated,
+    Broadcast,
+    Answer,
+    AnswerRepeated,
+}
+
 #[derive(Clone, Copy)]
 pub enum Word {
     Owns,
     Taken(Role),
-    Failed(Role, u8),
+    Failed(Role, Failure),
     Free,
     Given { part: Intake, broadcast: bool },
     Answer { slave: u8, part: Intake },

@@ -18,7 +18,9 @@ pub enum Fed {
     Target,
     /// Nobody can read on: a wrong QQ, an A9 out of place or a bad pair.
     Broken,
-    /// The part is over; false for a wrong CRC and for an NN above 16.
+    /// An NN above 16, after which nobody reads on either.
+    OverLong,
+    /// The part is over; false for a wrong CRC.
     Whole(bool),
 }
 
@@ -54,7 +56,7 @@ impl Intake {
             return Fed::Broken;
         }
         if place == NN && symbol as usize > MAX_DATA {
-            return Fed::Whole(false);
+            return Fed::OverLong;
         }
         self.register = crc_step(self.register, symbol);
         self.place += 1;

@@ -44,9 +44,9 @@ pub fn push_event(out: &mut Vec<u8>, table: &Table, event: &Event) {
     match &event.word {
         Word::Owns => out.extend_from_slice(b" owns"),
         Word::Taken(_) => out.extend_from_slice(b" taken"),
-        Word::Failed(_, number) => {
+        Word::Failed(_, failure) => {
             out.extend_from_slice(b" failed ");
-            push_decimal(out, *number as u32);
+            push_decimal(out, failure.number() as u32);
         }
         Word::Free => out.extend_from_slice(b" free"),
         Word::Given { part, .. } => {

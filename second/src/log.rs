@@ -67,7 +67,7 @@ fn tag_and_values(word: &Word) -> (u8, Vec<u8>) {
     match word {
         Word::Owns => (1, vec![]),
         Word::Taken(_) => (2, vec![]),
-        Word::Failed(_, number) => (3, vec![*number]),
+        Word::Failed(_, failure) => (3, vec![failure.number()]),
         Word::Free => (4, vec![]),
         Word::Given { part, .. } => {
             (5, [&[part.source()], &part.command()[..], part.payload()].concat())

@@ -1,7 +1,8 @@
 //! The transfer under way, as an onlooker at the wire writes it down.
 
+use crate::event::OverLong;
 use crate::intake::Intake;
-use crate::wire::Wire;
+use crate::wire::{Wire, BROADCAST};
 
 /// Where the transfer stands. One stage holds for all who take part, because
 /// all hear the same symbols and whoever gets out of step falls silent.
@@ -114,6 +115,17 @@ impl Transfer {
             Some(_) => Stage::Release,
             None => Stage::Silence,
         };
+    }
+
+    /// What an NN above 16 stands in, if it is read now.
+    pub fn over_long(&self) -> OverLong {
+        match self.stage {
+            Stage::Answer if self.answer_repeated => OverLong::AnswerRepeated,
+            Stage::Answer => OverLong::Answer,
+            _ if self.heard_part.target() == BROADCAST => OverLong::Broadcast,
+            _ if self.part_repeated => OverLong::PartRepeated,
+            _ => OverLong::Part,
+        }
     }
 
     /// With nobody left in step nothing more can come of the transfer.

@@ -78,7 +78,10 @@ fn silence(draft: &mut Draft) {
     match draft.random.below(10) {
         0..=6 => run_to_syn(draft),
         7 => draft.heard(SYN),
-        8 => ghost_telegram(draft),
+        8 => {
+            let target = draft.target();
+            ghost_telegram(draft, target);
+        }
         _ => {
             let symbol = draft.noise();
             draft.heard(symbol);
@@ -88,8 +91,8 @@ fn silence(draft: &mut Draft) {
 
 /// A sound telegram without a SYN before it: whoever ought to be silent and
 /// is not gives itself away.
-fn ghost_telegram(draft: &mut Draft) {
-    let head = [draft.any_master(), draft.target(), 0x05, 0x02];
+fn ghost_telegram(draft: &mut Draft, target: u8) {
+    let head = [draft.any_master(), target, 0x05, 0x02];
     let part = Wire::master_part(head, &[]);
     for &symbol in part.symbols() {
         draft.heard(symbol);
@@ -176,14 +179,15 @@ fn steered(draft: &mut Draft, part: &Intake) -> Option<u8> {
 /// One symbol that carries the master part on, or spoils it on purpose.
 fn spell_on(draft: &mut Draft, plan: &Plan) {
     let part = *draft.bench.bus.heard_part();
+    if part.at_count() && draft.random.percent(8) {
+        return spell_over_long(draft, plan);
+    }
     let filler = steered(draft, &part).unwrap_or_else(|| part_filler(draft));
     let sound = part.next_sound(plan.source, plan.target, filler);
     let symbol = if part.check_is_syn() && draft.random.percent(30) {
         SYN
     } else if part.at_check() && draft.random.percent(25) {
         sound ^ 0x10
-    } else if part.at_count() && draft.random.percent(8) {
-        over_long(draft)
     } else if part.in_escape() && draft.random.percent(10) {
         draft.random.pick(&[SYN, ESC, 0x02, 0xFF])
     } else {
@@ -207,9 +211,25 @@ fn part_filler(draft: &mut Draft) -> u8 {
     }
 }
 
+/// Often followed by what looks like a repetition to a reader that thinks it
+/// has refused the part.
+fn spell_over_long(draft: &mut Draft, plan: &Plan) {
+    let count = over_long(draft);
+    draft.heard(count);
+    if draft.random.percent(60) {
+        return;
+    }
+    match draft.random.below(3) {
+        0 => draft.run(1),
+        1 => draft.heard(NAK),
+        _ => draft.heard(ACK),
+    }
+    ghost_telegram(draft, plan.target);
+}
+
 fn over_long(draft: &mut Draft) -> u8 {
-    if draft.random.percent(30) {
-        draft.random.pick(&[0x11, ESC, 0xFF])
+    if draft.random.percent(40) {
+        draft.random.pick(&[0x11, 0x12, ESC, 0xFF])
     } else {
         draft.random.between(0x11, 0xFF) as u8
     }

@@ -4,6 +4,9 @@ use super::draft::Draft;
 use crate::scenario::Op;
 use crate::wire::{is_master, Wire, ACK, BROADCAST, NAK, SYN};
 
+/// A foreign device may send more than 16; so many always fit a wire buffer.
+const FOREIGN_DATA: usize = 18;
+
 pub fn fill(draft: &mut Draft) {
     for _ in 0..draft.random.between(3, 60) {
         match draft.random.below(100) {
@@ -48,7 +51,7 @@ fn foreign_telegram(draft: &mut Draft) {
     let target = draft.target();
     let [pb, sb] = draft.command();
     let mut data = draft.data();
-    data.truncate(16);
+    data.truncate(FOREIGN_DATA);
     let part = Wire::master_part([source, target, pb, sb], &data);
     spell(draft, part.symbols());
     if target == BROADCAST {
@@ -97,7 +100,7 @@ fn foreign_answer(draft: &mut Draft) {
         draft.run(count);
     } else {
         let mut data = draft.data();
-        data.truncate(16);
+        data.truncate(FOREIGN_DATA);
         let answer = Wire::answer(&data);
         spell(draft, answer.symbols());
     }

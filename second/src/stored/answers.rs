@@ -203,15 +203,15 @@ pub const ENTRIES: &[Entry] = &[
     ),
     entry(
         "answer-nn-heard",
-        "NN 17 in 18 gets FF in 19; the repetition with NN 16 is the answer",
-        "01 0001 10  04 0004 10 08 5002  05 0002 0010  06 0001 00  06 0001 11  05 0002 0001
-         06 0001 10
+        "NN 17 in 18 is failed 5; NN 16, in 27 to the next telegram, is the answer",
+        "01 0001 10  ( 04 0004 10 08 5002 )*2  05 0002 0010  06 0001 00  06 0001 11
+         05 0002 0007  06 0001 00  06 0001 10
          06 0001 00  06 0001 01  06 0001 02  06 0001 03  06 0001 04  06 0001 05
          06 0001 06  06 0001 07  06 0001 08  06 0001 09  06 0001 0A  06 0001 0B
          06 0001 0C  06 0001 0D  06 0001 0E  06 0001 0F  06 0001 6E  05 0002 0002",
-        "11 10 owns / 17 10 taken
-         / 38 10 answer 08 10 00 01 02 03 04 05 06 07 08 09 0A 0B 0C 0D 0E 0F
-         / 39 10 free / end 39",
+        "11 10 owns / 17 10 taken / 18 10 failed 5 / 19 10 free / 20 10 owns / 26 10 taken
+         / 45 10 answer 08 10 00 01 02 03 04 05 06 07 08 09 0A 0B 0C 0D 0E 0F
+         / 46 10 free / end 46",
     ),
     entry(
         "answer-of-a-master",

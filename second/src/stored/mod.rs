@@ -1,5 +1,5 @@
 //! The stored scenarios: small files that show one thing each, with the lines
-//! they must give, worked out by hand from 01.
+//! they must give, worked out by hand from 01 as the requests of 02 left it.
 //!
 //! To add one, write an entry into the list it belongs to and a row into the
 //! README beside the files, then run `second stored DIR`.
@@ -9,6 +9,7 @@ mod answers;
 mod calls;
 mod form;
 pub mod logs;
+mod over_long;
 mod parts;
 mod text;
 pub mod values;
@@ -49,7 +50,14 @@ impl Entry {
 }
 
 pub fn entries() -> impl Iterator<Item = &'static Entry> {
-    let lists = [form::ENTRIES, calls::ENTRIES, access::ENTRIES, parts::ENTRIES, answers::ENTRIES];
+    let lists = [
+        form::ENTRIES,
+        calls::ENTRIES,
+        access::ENTRIES,
+        parts::ENTRIES,
+        answers::ENTRIES,
+        over_long::ENTRIES,
+    ];
     lists.into_iter().flatten()
 }
 
@@ -152,9 +160,27 @@ mod tests {
         assert!(names.iter().all(|name| name.chars().all(plain)));
     }
 
+    fn bytes_of(name: &str) -> Vec<u8> {
+        text::bytes(entries().find(|entry| entry.name == name).unwrap().hex)
+    }
+
+    #[test]
+    fn over_long_is_counted_by_its_place() {
+        let counts = |name| {
+            let line = bench::run(&bytes_of(name)).1.to_string();
+            let values = line.split(" over-long-").skip(1).map(|count| count.split_once('='));
+            values.map(|value| value.unwrap().1.to_string()).collect::<Vec<_>>().join(" ")
+        };
+        assert_eq!(counts("over-long-to-slave"), "1 0 0 0 0");
+        assert_eq!(counts("over-long-in-repeat"), "0 1 0 0 0");
+        assert_eq!(counts("over-long-broadcast-ff"), "0 0 1 0 0");
+        assert_eq!(counts("over-long-answer-ff"), "0 0 0 1 0");
+        assert_eq!(counts("over-long-answer-in-repeat"), "0 0 0 0 2");
+    }
+
     #[test]
     fn sizes() {
-        let size = |name| text::bytes(entries().find(|e| e.name == name).unwrap().hex).len();
+        let size = |name| bytes_of(name).len();
         assert_eq!(size("empty"), 0);
         assert_eq!(size("size-65536"), 65_536);
         assert_eq!(size("size-65537"), 65_537);

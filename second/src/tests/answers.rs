@@ -177,18 +177,46 @@ fn ack_heard_after_a_wrong_check() {
 }
 
 #[test]
-fn ack_heard_after_an_over_long_answer() {
-    let lines = ["19 10 failed 2", "20 10 free", "end 20"];
-    expect_lone(&[heard(0x11), heard(0x00), run(1)], &lines);
+fn owner_failed_5_on_an_over_long_answer() {
+    // 18: NN; 19: the owner's SYN, whatever is heard. AA alone is failed 4.
+    for count in 0x11..=0xFF {
+        for nineteenth in [run(1), heard(0x00), heard(0xFF), heard(0x55), quiet()] {
+            let ops = [heard(count), nineteenth];
+            match count {
+                0xAA => expect_lone(&ops, &["18 10 failed 4", "18 10 free", "end 19"]),
+                _ => expect_lone(&ops, &["18 10 failed 5", "19 10 free", "end 19"]),
+            }
+        }
+    }
 }
 
 #[test]
-fn over_long_answer_is_asked_for_again() {
-    // 18: NN 17 or A9; 19 the owner's FF; 20, 21 the empty answer; 22 its 00.
-    for count in [0x11, 0xA9, 0xFF] {
-        let rest = [heard(count), run(1), heard(0x00), heard(0x00), run(2)];
-        expect_lone(&rest, &["22 10 answer 08 00", "23 10 free", "end 23"]);
+fn owner_failed_5_on_an_over_long_repeated_answer() {
+    // 18, 19 damaged, 20 the owner's FF; NN in 21, SYN in 22.
+    for count in [0x11, 0x12, 0xA9, 0xFF] {
+        let rest = [heard(0x00), heard(0x01), run(1), heard(count), run(1)];
+        expect_lone(&rest, &["21 10 failed 5", "22 10 free", "end 22"]);
     }
+    // 18, 19 sound, FF heard in 20: nothing is handed out either.
+    let rest = [heard(0x00), heard(0x00), heard(0xFF), heard(0x11), run(1)];
+    expect_lone(&rest, &["21 10 failed 5", "22 10 free", "end 22"]);
+}
+
+#[test]
+fn owner_sends_syn_after_an_over_long_answer() {
+    // The SYN in 19 admits: the next telegram goes in 20.
+    let next = queue(&[0x10, 0x08, 0x50, 0x03]);
+    let lines = ["18 10 failed 5", "19 10 free", "20 10 owns", "end 20"];
+    expect_lone(&[heard(0x11), next, run(2)], &lines);
+}
+
+#[test]
+fn slave_hears_its_own_count_as_over_long() {
+    // NN 01 in 18 heard as 17; then, after FF in 21, in 22.
+    let lines = ["18 10 failed 5", "18 08 failed 1", "19 10 free", "end 19"];
+    expect_sample(&[run(17), heard(0x11), run(1)], &lines);
+    let lines = ["22 10 failed 5", "22 08 failed 1", "23 10 free", "end 23"];
+    expect_sample(&[run(20), heard(0xFF), heard(0x11), run(1)], &lines);
 }
 
 #[test]

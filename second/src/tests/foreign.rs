@@ -54,18 +54,80 @@ fn second_reading_sound() {
     expect(&ops, &["15 08 given 10 50 02 00", "end 15"]);
 }
 
+/// All that is above 16 but AA, which is a SYN wherever it is heard.
+fn over_long_counts() -> impl Iterator<Item = u8> {
+    (0x11..=0xFF).filter(|&count| count != 0xAA)
+}
+
 #[test]
-fn over_long_part_gets_ff() {
-    // NN 11 (17) in 6: FF in 7 and the part again from 8 to 13; 14: 00.
-    let mut ops = after(&[0x10, 0x08, 0x50, 0x02, 0x11], &[run(1)]);
+fn over_long_part_gets_nothing() {
+    // NN in 6; whatever is heard in 7, P1 in 8 to 13 is not read. SYN in 15,
+    // P1 in 16 to 21, 22: 00.
+    for count in over_long_counts() {
+        for seventh in [run(1), heard(0x00), heard(0xFF), heard(0x55)] {
+            let mut ops = after(&[0x10, 0x08, 0x50, 0x02, count], &[seventh]);
+            ops.extend(all_heard(&P1));
+            ops.extend([run(1), heard(0xAA)]);
+            ops.extend(all_heard(&P1));
+            ops.push(run(1));
+            expect(&ops, &["22 08 given 10 50 02 00", "end 22"]);
+        }
+    }
+}
+
+#[test]
+fn over_long_part_leaves_the_wire_quiet() {
+    // NN in 6, 7 to 15 quiet, SYN in 16: whoever reads it, 71 owns in 17.
+    for target in [0x08, 0x30, 0x35, 0xFE] {
+        for count in over_long_counts() {
+            let mut ops = vec![master(0x30), master(0x71), slave(0x08), heard(0xAA)];
+            ops.extend(all_heard(&[0x10, target, 0x50, 0x02, count]));
+            ops.extend([queue(&[0x71, 0x08, 0x50, 0x02]), run(11)]);
+            expect(&ops, &["17 71 owns", "end 17"]);
+        }
+    }
+}
+
+#[test]
+fn over_long_repetition_gets_nothing() {
+    // 2 to 7 sound, FF heard in 8; NN in 13. The 00 in 14 is for nobody.
+    for count in over_long_counts() {
+        let mut ops = after(&P1, &[heard(0xFF)]);
+        ops.extend(all_heard(&[0x10, 0x08, 0x50, 0x02, count, 0x00]));
+        ops.push(run(3));
+        expect(&ops, &["end 17"]);
+    }
+    // 2 to 7 damaged, 8 FF of 08; NN in 13, 14 to 22 quiet, SYN in 23.
+    let mut ops = vec![master(0x30), slave(0x08), heard(0xAA)];
+    ops.extend(all_heard(&P1_BAD));
+    ops.push(run(1));
+    ops.extend(all_heard(&[0x10, 0x08, 0x50, 0x02, 0x11]));
+    ops.extend([queue(&[0x30, 0x08, 0x50, 0x02]), run(11)]);
+    expect(&ops, &["24 30 owns", "end 24"]);
+}
+
+#[test]
+fn over_long_by_a_disturbed_owner() {
+    // NN, sent in 15 and again in 22, is heard as 17: the owner fails with 1
+    // and leaves, 08 is silent. Quiet, and SYN ten slots later.
+    let start = [master(0x10), slave(0x08), queue(&[0x10, 0x08, 0x50, 0x02])];
+    let again = queue(&[0x10, 0x08, 0x50, 0x03]);
+    let first = [&start[..], &[again, run(14), heard(0x11), run(11)]].concat();
+    let lines = ["11 10 owns", "15 10 failed 1", "15 10 free", "26 10 owns", "end 26"];
+    expect(&first, &lines);
+    let repeated = [run(16), heard(0xFF), run(4), heard(0x11), run(11)];
+    let second = [&start[..], &[again], &repeated].concat();
+    let lines = ["11 10 owns", "22 10 failed 1", "22 10 free", "33 10 owns", "end 33"];
+    expect(&second, &lines);
+}
+
+#[test]
+fn syn_in_the_place_of_nn() {
+    // 6 is a SYN: P1 in 7 to 12, 13: 00.
+    let mut ops = after(&[0x10, 0x08, 0x50, 0x02, 0xAA], &[]);
     ops.extend(all_heard(&P1));
     ops.push(run(1));
-    expect(&ops, &["14 08 given 10 50 02 00", "end 14"]);
-    // 00 heard instead of that FF: silent, nothing given.
-    let mut ops = after(&[0x10, 0x08, 0x50, 0x02, 0xA9], &[heard(0x00)]);
-    ops.extend(all_heard(&P1));
-    ops.push(run(1));
-    expect(&ops, &["end 14"]);
+    expect(&ops, &["13 08 given 10 50 02 00", "end 13"]);
 }
 
 #[test]

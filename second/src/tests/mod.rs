@@ -1,6 +1,6 @@
-//! Expected lines are worked out by hand from 01. The part 10 08 50 02 00 38
-//! (P1) has six symbols; sent after the first AUTO-SYN in slot 10 it takes
-//! slots 11 to 16, and 17 is its acknowledgement slot.
+//! Expected lines are worked out by hand from 01 and 02. The part
+//! 10 08 50 02 00 38 (P1) has six symbols; sent after the first AUTO-SYN in
+//! slot 10 it takes slots 11 to 16, and 17 is its acknowledgement slot.
 
 mod access;
 mod answers;

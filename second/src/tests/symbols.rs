@@ -1,5 +1,6 @@
-//! P1 to P7, the address sets and the reduction.
+//! P1 to P7, the address sets, the reduction, and A9 in the place of NN.
 
+use crate::intake::{Fed, Intake};
 use crate::wire::{crc_step, is_master, is_slave, slave_of, Wire, BROADCAST, ESC, SYN};
 
 fn p(data: &[u8]) -> Vec<u8> {
@@ -44,4 +45,12 @@ fn address_sets() {
     assert!(all.filter(|&a| is_master(a)).all(|a| is_slave(slave_of(a))));
     assert_eq!(slave_of(0xFF), 0x04);
     assert!(![SYN, ESC, BROADCAST].iter().any(|&a| is_master(a) || is_slave(a)));
+}
+
+#[test]
+fn a9_as_count_is_over_long_and_no_pair() {
+    assert_eq!(Intake::answer().feed(0xA9), Fed::OverLong);
+    let mut part = Intake::master_part();
+    let fed = [0x10, 0x08, 0x50, 0x02, 0xA9].map(|symbol| part.feed(symbol));
+    assert_eq!(fed, [Fed::More, Fed::Target, Fed::More, Fed::More, Fed::OverLong]);
 }
