@@ -67,6 +67,7 @@ pub record Seated (b : Bus) (a : ℕ) (master : Bool) (c : Bus) : Type 0 where
   pub slot : c .slot ≡ b .slot
   pub ran : c .ran ≡ b .ran
   pub quiet : c .quiet ≡ b .quiet
+  pub began : c .began ≡ b .began
 
 pub attach-done : (b : Bus) (a : ℕ) (master : Bool) → attaches b a master .verdict ≡ Done → Seated b a master (attaches b a master .bus)
 unfolding attaches takesSeat
@@ -83,6 +84,7 @@ attach-done b a master e =
       slot = ap (λ (x : Bus). x .slot) same;
       ran = ap (λ (x : Bus). x .ran) same;
       quiet = ap (λ (x : Bus). x .quiet) same;
+      began = ap (λ (x : Bus). x .began) same;
     }
 
 -- ---- queue and reply
@@ -95,6 +97,7 @@ pub record OneTurn (b : Bus) (i : ℕ) (t : Turn) (c : Bus) : Type 0 where
   pub slot : c .slot ≡ b .slot
   pub ran : c .ran ≡ b .ran
   pub quiet : c .quiet ≡ b .quiet
+  pub began : c .began ≡ b .began
 
 one-turn : (b c : Bus) (i : ℕ) (t : Turn) → c ≡ withTurn b i t → OneTurn b i t c
 unfolding withTurn turnAt
@@ -106,6 +109,7 @@ one-turn b c i t same =
       slot = ap (λ (x : Bus). x .slot) same;
       ran = ap (λ (x : Bus). x .ran) same;
       quiet = ap (λ (x : Bus). x .quiet) same;
+      began = ap (λ (x : Bus). x .began) same;
     }
 
 -- a turn with another outbox, or another reply book

@@ -1,22 +1,23 @@
 -- A bus whose stations were told nothing has no events, and only such a bus. Assumes nothing.
 use mathlib.Core.Path.{_≡_, refl, ap}
 use mathlib.Core.Bool.{Bool, true, false, true≢false}
-use mathlib.Core.List.{List, [], _∷_, _++_}
+use mathlib.Core.List.{List, [], _∷_, _++_, map}
 use mathlib.Core.Logic.{_↔_}
 use native.Mathlib.Omega.{arith}
 use lib.ListN.{length}
 use Rattle.laws.specs.First.{isFound}
 use Rattle.laws.specs.declared.Found.{Found}
 use Rattle.laws.specs.declared.Found.the-variants.{At, Missing}
-use Rattle.station.specs.Events.{tells, eventsAs}
+use Rattle.station.specs.Events.{Event, tells, eventsAs}
 use Rattle.station.specs.declared.phase.Told.{Told}
 use Rattle.station.specs.declared.phase.Told.the-variants.{Silence, Owns, Taken, Failed, Free, FailedFree, Given, Answered}
 use Rattle.station.specs.declared.station.Turn.{Turn}
 use Rattle.bus.specs.declared.bus.Bus.{Bus}
 use Rattle.bus.specs.declared.find.Query.the-variants.{WasTold}
 use Rattle.bus.specs.Bus.{attachedTurns}
-use Rattle.bus.specs.Events.{those, linesOf, events}
+use Rattle.bus.specs.Events.{those, linesOf, tellings, Line, line, events}
 use Rattle.bus.specs.Find.{meets, firstOf, thereIs}
+use Rattle.bus.specs.Time.{timeOf}
 use Rattle.bus.specs.Told.{isTold}
 use Rattle.laws.proofs.FirstIs.{Every, none, next, missing-each, each-missing}
 
@@ -76,14 +77,27 @@ missing : (f : Found) → isFound f ≡ false → f ≡ Missing
 missing (At i) e = absurd (true≢false e)
 missing Missing e = refl
 
+map-nil : {A B : Type 0} (f : A → B) (l : List A) → map f l ≡ [] → l ≡ []
+map-nil f [] e = refl
+map-nil f (x ∷ l) e = one-line _ _ e
+
 -- nobody was told anything exactly when there are no events
 pub told-exactly-when : (b : Bus) → (thereIs b WasTold ≡ false) ↔ (events b ≡ [])
-unfolding thereIs firstOf events
+unfolding thereIs firstOf tellings events
 told-exactly-when b = (
   λ e.
       let u = missing-each (meets WasTold) 0 (attachedTurns b) (missing _ e) in
       rw (no-lines false u, no-lines true u),
   λ e.
-      let p = nil-parts (linesOf false (attachedTurns b)) (linesOf true (attachedTurns b)) e in
+      let p = nil-parts (linesOf false (attachedTurns b)) (linesOf true (attachedTurns b)) (map-nil (line (timeOf b)) _ e) in
       ap isFound (each-missing (meets WasTold) 0 (nobody-told (attachedTurns b) (p .0) (p .1))),
 )
+
+-- the events without their time are what the stations are told
+pub untimed : (b : Bus) → map (λ (l : Line). l .event) (events b) ≡ tellings b
+unfolding events
+untimed b = go (tellings b)
+  where
+    go : (es : List Event) → map (λ (l : Line). l .event) (map (line (timeOf b)) es) ≡ es
+    go [] = refl
+    go (e ∷ es) = ap (λ (l : List Event). e ∷ l) (go es)

@@ -1,5 +1,6 @@
 pub mod BesideFF
 pub mod DoneChanges
+pub mod Elapsed
 pub mod EventsTold
 pub mod ExamplesHold
 pub mod Generator

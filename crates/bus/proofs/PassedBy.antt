@@ -20,8 +20,8 @@ use Rattle.station.specs.declared.station.Station.{Station}
 use Rattle.station.specs.declared.station.Turn.{Turn}
 use Rattle.bus.specs.Slot.{saidBy, turned}
 use Rattle.bus.specs.Still.{skipsQuiet, countedOut, skipsSymbol, skips, still, mute, owes}
-use Rattle.bus.specs.Told.{isTold}
-use Rattle.bus.proofs.Tens.{not-first, silence}
+use Rattle.bus.specs.Told.{isTold, isOwns}
+use Rattle.bus.proofs.Tens.{not-first, silence, untold-owns}
 
 -- ---- a station that is ready as it is
 
@@ -147,6 +147,9 @@ heard-so (Symbol x) t w a h =
 pub still-untold : (heard : Sound) (t : Turn) → still heard t ≡ true → isTold (t .told) ≡ false
 unfolding still
 still-untold heard t e = not-first (isTold (t .told)) _ e .0
+
+pub still-unowned : (heard : Sound) (t : Turn) → still heard t ≡ true → isOwns (t .told) ≡ false
+still-unowned heard t e = untold-owns t (still-untold heard t e)
 
 pub still-turned : (heard : Sound) (t : Turn) → still heard t ≡ true → turned heard t ≡ t
 unfolding still

@@ -1,17 +1,19 @@
 -- A turn of `run`'s loop, whole tens at once or one slot, is as many slots, one after the other. Assumes nothing.
 use mathlib.Core.Path.{_≡_, sym, ap, _∙_}
 use mathlib.Core.Bool.{Bool, true, false, cond}
+use mathlib.Core.List.{List}
 use Prim.Native.Nat.{ℕ, suc, _+_, _-_, _%_, _^_, _≤_, _<_}
 use native.Mathlib.Omega.{arith}
 use borrow.Author.Tests.{ltb-true}
 use lib.Dec.{ltb}
 use Rattle.station.specs.declared.phase.Sound.{Sound}
+use Rattle.station.specs.declared.station.Turn.{Turn}
 use Rattle.bus.specs.declared.bus.Bus.{Bus}
 use Rattle.bus.specs.declared.find.Query.the-variants.{WasTold, Restless}
 use Rattle.bus.specs.Bus.{attachedTo}
 use Rattle.bus.specs.Find.{thereIs}
 use Rattle.bus.specs.Run.{runs}
-use Rattle.bus.specs.Slot.{generatorNext, spoken, turned, mapFirst, slotHeard, slotRun}
+use Rattle.bus.specs.Slot.{generatorNext, spoken, turned, mapFirst, turnsAfter, ownsAmong, latest, beganAfter, slotHeard, slotRun}
 use Rattle.bus.specs.Strides.{restsWith, atRest, byTens}
 use Rattle.bus.proofs.Tens.{and-second, slotsLater, tens}
 
@@ -36,20 +38,28 @@ tens-less b restless left e h = omega (arith, tens-mean b restless left e h .0)
 
 -- ---- one slot
 
-heard-is : (b next : Bus) (word : Sound) → next .turns ≡ mapFirst (turned word) (attachedTo b) (b .turns) → next .count ≡ b .count
-    → next .slot ≡ (b .slot + 1) % 2 ^ 32 → next .ran ≡ true → next .quiet ≡ generatorNext (b .quiet) word → next ≡ slotHeard b word
+-- the bus after a slot, field by field
+pub heard-is : (b next : Bus) (word : Sound) → next .turns ≡ mapFirst (turned word) (attachedTo b) (b .turns) → next .count ≡ b .count
+    → next .slot ≡ (b .slot + 1) % 2 ^ 32 → next .ran ≡ true → next .quiet ≡ generatorNext (b .quiet) word → next .began ≡ beganAfter b word
+    → next ≡ slotHeard b word
 unfolding slotHeard
-heard-is b next word t c s r q = λ i. record { turns = t i; count = c i; slot = s i; ran = r i; quiet = q i }
+heard-is b next word t c s r q o = λ i. record { turns = t i; count = c i; slot = s i; ran = r i; quiet = q i; began = o i }
+
+-- the slot of the latest owns line, as the loop over the stations finds it
+pub began-is : (b : Bus) (word : Sound) (turns : List Turn) (j : ℕ) {owns : Bool} {slot began r : ℕ} → j ≡ attachedTo b → turns ≡ turnsAfter b word
+    → owns ≡ ownsAmong j turns → slot ≡ (b .slot + 1) % 2 ^ 32 → began ≡ b .began → r ≡ latest owns slot began → r ≡ beganAfter b word
+began-is b word turns j e t o s p q = rw (q, o, s, p, t, e)
 
 slot-spoken : (b : Bus) {word : Sound} → word ≡ spoken b → slotHeard b word ≡ slotRun b
 unfolding slotRun
 slot-spoken b w = ap (slotHeard b) w
 
--- the bus after the slot, field by field
+-- after an undisturbed one
 pub slot-is : (b next : Bus) (word : Sound) → word ≡ spoken b
     → next .turns ≡ mapFirst (turned word) (attachedTo b) (b .turns) → next .count ≡ b .count
-    → next .slot ≡ (b .slot + 1) % 2 ^ 32 → next .ran ≡ true → next .quiet ≡ generatorNext (b .quiet) word → next ≡ slotRun b
-slot-is b next word w t c s r q = heard-is b next word t c s r q ∙ slot-spoken b w
+    → next .slot ≡ (b .slot + 1) % 2 ^ 32 → next .ran ≡ true → next .quiet ≡ generatorNext (b .quiet) word → next .began ≡ beganAfter b word
+    → next ≡ slotRun b
+slot-is b next word w t c s r q o = heard-is b next word t c s r q o ∙ slot-spoken b w
 
 -- ---- one slot of the run
 

@@ -37,14 +37,14 @@ use Rattle.station.specs.declared.phase.Told.the-variants.{Silence, Owns, Taken
 use Rattle.station.specs.declared.station.Station.{Station}
 use Rattle.station.specs.declared.station.Turn.{Turn}
 use Rattle.bus.specs.declared.bus.Bus.{Bus}
-use Rattle.bus.specs.declared.find.Query.the-variants.{WasTold, Restless}
+use Rattle.bus.specs.declared.find.Query.the-variants.{WasTold, Restless, ToldOwns}
 use Rattle.bus.specs.Bus.{attachedTo, attachedTurns}
 use Rattle.bus.specs.Find.{meets, firstOf, thereIs}
 use Rattle.bus.specs.Rest.{isQq, atStart, firstMaster, fromStart, idleSince, idle, rests}
 use Rattle.bus.specs.Run.{runs}
-use Rattle.bus.specs.Slot.{wired, patience, generatorSays, saidBy, spokenWith, spoken, turned, mapFirst, slotHeard, slotRun}
+use Rattle.bus.specs.Slot.{wired, patience, generatorSays, saidBy, spokenWith, spoken, turned, mapFirst, ownsAmong, slotHeard, slotRun}
 use Rattle.bus.specs.Strides.{atRest}
-use Rattle.bus.specs.Told.{isTold}
+use Rattle.bus.specs.Told.{isTold, isOwns}
 use Rattle.laws.proofs.FirstIs.{Every, none, next, every-map, missing-each, each-missing}
 
 -- ---- a station at rest
@@ -210,6 +210,10 @@ rest-untold t r = ap (meets WasTold) (r .same)
 woken-untold : (t : Turn) → Resting t → meets WasTold (turned (Symbol syn) t) ≡ false
 woken-untold t r = ap (meets WasTold) (rest-woken t r)
 
+-- who is told nothing is not told owns
+pub untold-owns : (t : Turn) → meets WasTold t ≡ false → meets ToldOwns t ≡ false
+untold-owns t e = ap isOwns (silence (t .told) e)
+
 -- ---- the attached stations, each at rest
 
 wired-quiet : (w : Sound) → wired w Quiet ≡ w
@@ -261,10 +265,10 @@ run-on : (n : ℕ) (b c : Bus) → slotRun b ≡ c → thereIs c WasTold ≡ fal
 unfolding runs
 run-on n b c e h = rw (e, h)
 
-module _ (l : List Turn) (count : ℕ) where
+module _ (l : List Turn) (count began : ℕ) where
   -- the bus with these stations
   abbrev with : ℕ → Bool → ℕ → List Turn → Bus
-  with s r q k = record { turns = k; count = count; slot = s; ran = r; quiet = q }
+  with s r q k = record { turns = k; count = count; slot = s; ran = r; quiet = q; began = began }
 
   abbrev seated : ℕ
   seated = attachedTo (with 0 false 0 l)
@@ -273,6 +277,10 @@ module _ (l : List Turn) (count : ℕ) where
       → thereIs (with s r q k) WasTold ≡ false
   unfolding thereIs firstOf attachedTo
   untold s r q k u = ap isFound (each-missing (meets WasTold) 0 u)
+
+  -- and so nobody owns
+  unowned : (k : List Turn) → Every (λ t. meets WasTold t ≡ false) (take seated k) → ownsAmong seated k ≡ false
+  unowned k u = ap isFound (each-missing (meets ToldOwns) 0 (every-map untold-owns u))
 
   hushed : (s : ℕ) (r : Bool) (q : ℕ) (k : List Turn) → Every (λ t. saidBy t ≡ Quiet) (take seated k)
       → spoken (with s r q k) ≡ generatorSays q
@@ -291,12 +299,14 @@ module _ (l : List Turn) (count : ℕ) where
     quiet-slot s r q h =
         let says : spoken (with s r q l) ≡ Quiet = hushed s r q l (every-map rest-says rest) ∙ rw (lt-ltb q patience h) in
         hears-as s r q l Quiet says
-        ∙ rw (stays Resting (turned Quiet) rest-quiet seated l rest, lt-ltb q patience h)
+        ∙ rw (stays Resting (turned Quiet) rest-quiet seated l rest, unowned l (every-map rest-untold rest), lt-ltb q patience h)
 
     -- the generator's AA after nine of them
     syn-slot : (s : ℕ) (r : Bool) → slotRun (with s r patience l) ≡ with ((s + 1) % 2 ^ 32) true 0 (wake seated l)
     unfolding slotHeard generatorSays attachedTo
-    syn-slot s r = hears-as s r patience l (Symbol syn) (hushed s r patience l (every-map rest-says rest))
+    syn-slot s r =
+        hears-as s r patience l (Symbol syn) (hushed s r patience l (every-map rest-says rest))
+        ∙ rw (unowned (wake seated l) (every-stepped Resting (λ t. meets WasTold t ≡ false) (turned (Symbol syn)) woken-untold seated l rest))
 
     -- the quiet slot after that
     woken-slot : (s : ℕ) (r : Bool) → slotRun (with s r 0 (wake seated l)) ≡ with ((s + 1) % 2 ^ 32) true 1 l
@@ -307,6 +317,7 @@ module _ (l : List Turn) (count : ℕ) where
         ∙ rw (
           twice (turned (Symbol syn)) (turned Quiet) seated l,
           stays Resting (λ t. turned Quiet (turned (Symbol syn) t)) woken-quiet seated l rest,
+          unowned l (every-map rest-untold rest),
         )
 
     rest-tells : (s : ℕ) (r : Bool) (q : ℕ) → thereIs (with s r q l) WasTold ≡ false
@@ -352,7 +363,7 @@ ran-stays (suc k) = ran-stays k
 
 -- the same bus, so many slots later; it has run
 abbrev pub slotsLater : Bus → ℕ → Bus
-slotsLater b m = record { turns = b .turns; count = b .count; slot = (b .slot + m) % 2 ^ 32; ran = true; quiet = b .quiet }
+slotsLater b m = record { turns = b .turns; count = b .count; slot = (b .slot + m) % 2 ^ 32; ran = true; quiet = b .quiet; began = b .began }
 
 -- every attached station at rest, at least one quiet slot heard, and nine at most
 record AtRest (b : Bus) : Type 0 where
@@ -380,13 +391,13 @@ ten-slots n b a =
         ∙ ap (λ (k : ℕ). number k s) ten
         ∙ number-is 9 s in
         ap (λ (k : ℕ). runs k b) all
-        ∙ quiet-run l (b .count) (a .stations) first (suc (suc (last + n))) s (b .ran) (b .quiet) (omega (arith, nine))
-        ∙ ap (λ (q : ℕ). runs (suc (suc (last + n))) (with l (b .count) (number first s) (ranAfter first (b .ran)) q l)) nine
-        ∙ syn-run l (b .count) (a .stations) (last + n) (number first s) (ranAfter first (b .ran))
-        ∙ quiet-run l (b .count) (a .stations) last n (number 2 (number first s)) true 1 (omega (arith, back, a .few))
-        ∙ ap (λ (k : ℕ). runs n (with l (b .count) k (ranAfter last true) (1 + last) l)) slots
-        ∙ ap (λ (r : Bool). runs n (with l (b .count) ((s + 10) % 2 ^ 32) r (1 + last) l)) (ran-stays last)
-        ∙ ap (λ (q : ℕ). runs n (with l (b .count) ((s + 10) % 2 ^ 32) true q l)) back
+        ∙ quiet-run l (b .count) (b .began) (a .stations) first (suc (suc (last + n))) s (b .ran) (b .quiet) (omega (arith, nine))
+        ∙ ap (λ (q : ℕ). runs (suc (suc (last + n))) (with l (b .count) (b .began) (number first s) (ranAfter first (b .ran)) q l)) nine
+        ∙ syn-run l (b .count) (b .began) (a .stations) (last + n) (number first s) (ranAfter first (b .ran))
+        ∙ quiet-run l (b .count) (b .began) (a .stations) last n (number 2 (number first s)) true 1 (omega (arith, back, a .few))
+        ∙ ap (λ (k : ℕ). runs n (with l (b .count) (b .began) k (ranAfter last true) (1 + last) l)) slots
+        ∙ ap (λ (r : Bool). runs n (with l (b .count) (b .began) ((s + 10) % 2 ^ 32) r (1 + last) l)) (ran-stays last)
+        ∙ ap (λ (q : ℕ). runs n (with l (b .count) (b .began) ((s + 10) % 2 ^ 32) true q l)) back
 
 -- it is at rest ten slots later too
 rests-on : (b : Bus) (m : ℕ) → AtRest b → AtRest (slotsLater b m)
@@ -402,7 +413,7 @@ ten-by-ten (suc k) n b a =
     ap (λ (m : ℕ). runs m b) e
     ∙ ten-slots (10 * suc k + n) b a
     ∙ ten-by-ten k n (slotsLater b 10) (rests-on b 10 a)
-    ∙ ap (λ (s : ℕ). runs n (record { turns = b .turns; count = b .count; slot = s; ran = true; quiet = b .quiet }))
+    ∙ ap (λ (s : ℕ). runs n (record { turns = b .turns; count = b .count; slot = s; ran = true; quiet = b .quiet; began = b .began }))
     (mod-add-mod (b .slot + 10) (2 ^ 32) (10 * suc k) ∙ ap (λ (m : ℕ). m % 2 ^ 32) f)
 
 -- what the test says
@@ -445,4 +456,4 @@ tens left b e h = go (left / 10) (div-add-mod left 10)
 -- nobody is told anything by a bus at rest
 pub rest-tells-nobody : (b : Bus) (m : ℕ) → atRest b ≡ true → thereIs (slotsLater b m) WasTold ≡ false
 unfolding attachedTo
-rest-tells-nobody b m e = rest-tells (b .turns) (b .count) (at-rest-means b e .stations) _ _ _
+rest-tells-nobody b m e = rest-tells (b .turns) (b .count) (b .began) (at-rest-means b e .stations) _ _ _

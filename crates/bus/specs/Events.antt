@@ -1,10 +1,12 @@
--- What a slot told, one element a line, in 01's line order ("Bench program", Lines). Assumes nothing.
+-- What a slot told, one element a line, in 01's line order ("Bench program", Lines), each with its time (02, E4). Assumes nothing.
 use mathlib.Core.Bool.{Bool, true, false, cond}
-use mathlib.Core.List.{List, [], _∷_, _++_}
+use mathlib.Core.List.{List, [], _∷_, _++_, map}
 use Rattle.station.specs.Events.{Word, owns, taken, failed, free, given, answer, Event, tells}
 use Rattle.station.specs.declared.station.Turn.{Turn}
 use Rattle.bus.specs.declared.bus.Bus.{Bus}
+use Rattle.bus.specs.declared.time.Time.{Time}
 use Rattle.bus.specs.Bus.{attachedTurns}
+use Rattle.bus.specs.Time.{timeOf}
 
 -- given and answer lines come last
 abbrev pub comesLast : Word → Bool
@@ -26,5 +28,17 @@ linesOf last [] = []
 linesOf last (t ∷ ts) = those last (tells t) ++ linesOf last ts
 
 -- owns, taken, failed, free lines by station in attach order, then given and answer lines in attach order
-unfoldable pub events : Bus → List Event
-events b = linesOf false (attachedTurns b) ++ linesOf true (attachedTurns b)
+unfoldable pub tellings : Bus → List Event
+tellings b = linesOf false (attachedTurns b) ++ linesOf true (attachedTurns b)
+
+-- an event, with the slot number and the elapsed slots
+pub record Line : Type 0 where
+  pub time : Time
+  pub event : Event
+
+abbrev pub line : Time → Event → Line
+line w e = record { time = w; event = e }
+
+-- what a slot hands out: all its events carry one time
+unfoldable pub events : Bus → List Line
+events b = map (line (timeOf b)) (tellings b)

@@ -12,4 +12,5 @@ pub mod Run
 pub mod Slot
 pub mod Still
 pub mod Strides
+pub mod Time
 pub mod Told

@@ -1,16 +1,20 @@
 -- One slot (01, "A slot" and "Generator"). Assumes nothing.
-use mathlib.Core.Bool.{true, cond}
+use mathlib.Core.Bool.{Bool, true, cond}
 use mathlib.Core.List.{List, [], _∷_}
 use Prim.Native.Nat.{ℕ, zero, suc, _+_, _%_, _^_}
 use lib.Bits.{bitAnd}
 use lib.Dec.{ltb}
+use lib.ListN.{take}
+use Rattle.laws.specs.First.{firstFrom, isFound}
 use Rattle.station.specs.Station.{syn, ready, says}
 use Rattle.station.specs.Hear.{hears}
 use Rattle.station.specs.declared.phase.Sound.{Sound}
 use Rattle.station.specs.declared.phase.Sound.the-variants.{Quiet, Symbol}
 use Rattle.station.specs.declared.station.Turn.{Turn}
 use Rattle.bus.specs.declared.bus.Bus.{Bus}
+use Rattle.bus.specs.declared.find.Query.the-variants.{ToldOwns}
 use Rattle.bus.specs.Bus.{attachedTo, attachedTurns}
+use Rattle.bus.specs.Find.{meets}
 
 -- the bus is LOW-active: two that are sent at once are heard as their bitwise AND
 abbrev pub wired : Sound → Sound → Sound
@@ -53,15 +57,31 @@ mapFirst f zero l = l
 mapFirst f (suc n) [] = []
 mapFirst f (suc n) (a ∷ l) = f a ∷ mapFirst f n l
 
+-- what each attached station makes of it
+abbrev pub turnsAfter : Bus → Sound → List Turn
+turnsAfter b heard = mapFirst (turned heard) (attachedTo b) (b .turns)
+
+-- one of the first n is told owns
+abbrev pub ownsAmong : ℕ → List Turn → Bool
+ownsAmong n ts = isFound (firstFrom (meets ToldOwns) 0 (take n ts))
+
+-- the slot of the latest owns line: this one, if somebody is told owns in it
+abbrev pub latest : Bool → ℕ → ℕ → ℕ
+latest owns slot began = cond owns slot began
+
+abbrev pub beganAfter : Bus → Sound → ℕ
+beganAfter b heard = latest (ownsAmong (attachedTo b) (turnsAfter b heard)) ((b .slot + 1) % 2 ^ 32) (b .began)
+
 -- a slot that all hear as given; slots are numbered in 32 bits
 unfoldable pub slotHeard : Bus → Sound → Bus
 slotHeard b heard =
     record {
-      turns = mapFirst (turned heard) (attachedTo b) (b .turns);
+      turns = turnsAfter b heard;
       count = b .count;
       slot = (b .slot + 1) % 2 ^ 32;
       ran = true;
       quiet = generatorNext (b .quiet) heard;
+      began = beganAfter b heard;
     }
 
 -- an undisturbed slot

@@ -18,6 +18,8 @@ pub struct Bus {
     pub ran: bool,
     // The generator's count of quiet slots.
     pub quiet: u8,
+    // The slot of the latest owns line.
+    pub began: u32,
 }
 
 // The bus after a call; a refused call leaves it as it was.
@@ -54,6 +56,7 @@ impl Bus {
             slot: 0,
             ran: false,
             quiet: 0,
+            began: 0,
         }
     }
 

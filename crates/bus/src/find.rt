@@ -18,6 +18,10 @@ pub enum Query {
     WasTold,
     // Whether it is anything but at rest.
     Restless,
+    // Whether the last slot told it owns.
+    ToldOwns,
+    // Whether it owns the wire, or left it in the last slot.
+    InTransfer,
 }
 
 // The address at which a station is a slave.
@@ -48,6 +52,8 @@ fn meets(t: Turn, q: Query) -> bool
         Query::Holder(a) => s.is_own(a),
         Query::WasTold => crate::rest::is_told(told),
         Query::Restless => { if crate::rest::rests(t) { false } else { true } }
+        Query::ToldOwns => crate::time::is_owns(told),
+        Query::InTransfer => crate::time::in_transfer(t),
     }
 }
 

@@ -9,3 +9,4 @@ pub mod rest;
 pub mod run;
 mod slot;
 mod still;
+pub mod time;

@@ -6,6 +6,7 @@ use crate::bus::Bus;
 use crate::rest;
 use crate::slot;
 use crate::still;
+use crate::time;
 
 // The bus where a run stopped, and the slots that are left to run.
 pub struct Stop {
@@ -39,6 +40,7 @@ impl Bus {
                 continue;
             }
             let mut told = false;
+            let mut owns = false;
             for j in 0..n {
                 let t = self.turns[j];
                 if still::still(t, word) {
@@ -47,11 +49,13 @@ impl Bus {
                 let u = self.turns[j];
                 let v = still::turned(u, word);
                 told = rest::or_told(told, v);
+                owns = time::or_owns(owns, v);
                 self.turns[j] = v;
             }
             self.slot = std::num::wrapping_add_u32(self.slot, 1);
             self.ran = true;
             self.quiet = slot::generator_next(self.quiet, word);
+            self.began = time::latest(owns, self.slot, self.began);
             left -= 1;
             if told {
                 break;

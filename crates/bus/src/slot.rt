@@ -3,6 +3,7 @@ ghost use mathlib.Core.Path.{_≡_};
 ghost use Rattle.bus.specs.Slot.{wired, generatorSays, generatorNext, spoken, slotHeard, slotRun};
 use crate::bus::Bus;
 use crate::still;
+use crate::time;
 use station::phase::Sound;
 use station::station::Station;
 
@@ -74,6 +75,7 @@ impl Bus {
     {
         let n = self.attached();
         let quiet = generator_next(self.quiet, heard);
+        let mut owns = false;
         for i in 0..n {
             let t = self.turns[i];
             if still::still(t, heard) {
@@ -81,11 +83,13 @@ impl Bus {
             }
             let u = self.turns[i];
             let v = still::turned(u, heard);
+            owns = time::or_owns(owns, v);
             self.turns[i] = v;
         }
         self.slot = std::num::wrapping_add_u32(self.slot, 1);
         self.ran = true;
         self.quiet = quiet;
+        self.began = time::latest(owns, self.slot, self.began);
         self
     }
 }

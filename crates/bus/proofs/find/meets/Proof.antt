@@ -34,6 +34,18 @@ enum-told-2 c = search needs
 rests-requires : tie.Need-rests-requires
 rests-requires c κs = search needs
 
+enum-told-3 : tie.Need-enum-told-3
+enum-told-3 c = search needs
+
+is-owns-requires : tie.Need-is-owns-requires
+is-owns-requires c κs = search needs
+
+enum-told-4 : tie.Need-enum-told-4
+enum-told-4 c = search needs
+
+in-transfer-requires : tie.Need-in-transfer-requires
+in-transfer-requires c κs = search needs
+
 returns : tie.Need-returns
 unfolding meets
 returns c =
@@ -84,6 +96,22 @@ returns-6 c =
       c .before .before .enum-told2 .given .1,
     )
 
+returns-7 : tie.Need-returns-7
+unfolding meets
+returns-7 c =
+    simp (
+      c .is-owns .ensures,
+      c .before .enum-told3 .given .1,
+    )
+
+returns-8 : tie.Need-returns-8
+unfolding meets
+returns-8 c =
+    simp (
+      c .in-transfer .ensures,
+      c .before .enum-told4 .given .1,
+    )
+
 pub meets-spec : {M : Type 1} → statement M
 meets-spec =
     tie.close
@@ -98,9 +126,15 @@ meets-spec =
     is-told-requires
     enum-told-2
     rests-requires
+    enum-told-3
+    is-owns-requires
+    enum-told-4
+    in-transfer-requires
     returns
     returns-2
     returns-3
     returns-4
     returns-5
-    returns-6)
+    returns-6
+    returns-7
+    returns-8)

@@ -1,6 +1,6 @@
 -- `bus::bus::Bus::run` meets its contract. The invariant of the outer loop: what is left to run comes to what the whole run
 -- comes to, and the measure is what is left; of the inner two: the word and whether anybody is restless, and the turns and
--- whether anybody was told something, each as far as the stations have been passed. Assumes nothing.
+-- whether anybody was told something, and owns, each as far as the stations have been passed. Assumes nothing.
 use borrow.Author.Needs.{needs}
 use mathlib.Core.Path.{_≡_, refl, sym, ap, _∙_}
 use mathlib.Core.Bool.{Bool, true, false}
@@ -12,14 +12,14 @@ use Rattle.laws.specs.First.{firstFrom, isFound}
 use Rattle.laws.proofs.Lists.{length-mapped}
 use Rattle.station.specs.declared.station.Turn.{Turn}
 use Rattle.bus.specs.declared.bus.Bus.{Bus}
-use Rattle.bus.specs.declared.find.Query.the-variants.{WasTold, Restless}
+use Rattle.bus.specs.declared.find.Query.the-variants.{WasTold, Restless, ToldOwns}
 use Rattle.bus.specs.Bus.{seats, attachedTo}
 use Rattle.bus.specs.Find.{meets}
 use Rattle.bus.specs.Run.{runs}
-use Rattle.bus.specs.Slot.{generatorSays, generatorNext, spokenWith, turned, mapFirst}
+use Rattle.bus.specs.Slot.{generatorSays, generatorNext, spokenWith, turned, mapFirst, ownsAmong}
 use Rattle.bus.proofs.Loops.{attached-fit, spoken-turn, spoken-passed, length-mapFirst, mapFirst-turn, mapFirst-passed, found-turn, found-passed, found-set, all-spoken, all-asked, same-count}
-use Rattle.bus.proofs.PassedBy.{mute-says, still-untold, still-turned}
-use Rattle.bus.proofs.Strides.{tens-on, tens-less, slot-is, stops, continues, ends}
+use Rattle.bus.proofs.PassedBy.{mute-says, still-untold, still-unowned, still-turned}
+use Rattle.bus.proofs.Strides.{tens-on, tens-less, began-is, slot-is, stops, continues, ends}
 use Rattle.bus.proofs.bus.Bus.run.Statement.{statement}
 use Rattle.bus.proofs.bus.Bus.run.Tie as tie
 
@@ -32,12 +32,13 @@ abbrev μ-loop2 : tie.MeasureT-loop2
 μ-loop2 slots self n left word₀ restless₀ i₀ word restless i = n - i
 
 abbrev Inv-loop3 : tie.InvT-loop3
-Inv-loop3 slots self₀ n left word restless told₀ j₀ self told j =
+Inv-loop3 slots self₀ n left word restless told₀ owns₀ j₀ self told owns j =
     (j ≤ n) × (self .turns ≡ mapFirst (turned word) j (self₀ .turns)) × (self .count ≡ self₀ .count) × (self .slot ≡ self₀ .slot)
     × (self .quiet ≡ self₀ .quiet) × (told ≡ isFound (firstFrom (meets WasTold) 0 (take j (self .turns))))
+    × (self .began ≡ self₀ .began) × (owns ≡ ownsAmong j (self .turns))
 
 abbrev μ-loop3 : tie.MeasureT-loop3
-μ-loop3 slots self₀ n left word restless told₀ j₀ self told j = n - j
+μ-loop3 slots self₀ n left word restless told₀ owns₀ j₀ self told owns j = n - j
 
 abbrev Inv-loop : tie.InvT-loop
 Inv-loop slots self₀ n left₀ self left =
@@ -52,7 +53,7 @@ nobody test = refl
 
 -- the bus under another number, and it has run
 abbrev numbered : Bus → ℕ → Bus
-numbered b s = record { turns = b .turns; count = b .count; slot = s; ran = true; quiet = b .quiet }
+numbered b s = record { turns = b .turns; count = b .count; slot = s; ran = true; quiet = b .quiet; began = b .began }
 
 attached-requires : tie.Need-attached-requires Inv-loop2 μ-loop2 Inv-loop3 μ-loop3 Inv-loop μ-loop
 attached-requires c κs = search needs
@@ -162,7 +163,7 @@ loop-again c =
     )
 
 loop3-holds : tie.Need-loop3-holds Inv-loop2 μ-loop2 Inv-loop3 μ-loop3 Inv-loop μ-loop
-loop3-holds c = (search needs, refl, refl, refl, refl, nobody (meets WasTold))
+loop3-holds c = (search needs, refl, refl, refl, refl, nobody (meets WasTold), refl, nobody (meets ToldOwns))
 
 mul-t-2 : tie.Need-mul-t-2 Inv-loop2 μ-loop2 Inv-loop3 μ-loop3 Inv-loop μ-loop
 mul-t-2 c = search needs
@@ -195,6 +196,8 @@ loop3-again c =
       a .loop3 .inv .3,
       a .loop3 .inv .4,
       found-passed (meets WasTold) (a .loop3 .j) l _ k (a .loop3 .inv .5) (still-untold word _ still),
+      a .loop3 .inv .6,
+      found-passed (meets ToldOwns) (a .loop3 .j) l _ k (a .loop3 .inv .7) (still-unowned word _ still),
     )
 
 mul-u-2 : tie.Need-mul-u-2 Inv-loop2 μ-loop2 Inv-loop3 μ-loop3 Inv-loop μ-loop
@@ -208,6 +211,9 @@ turned-requires c κs = search needs
 
 or-told-requires : tie.Need-or-told-requires Inv-loop2 μ-loop2 Inv-loop3 μ-loop3 Inv-loop μ-loop
 or-told-requires c κs = search needs
+
+or-owns-requires : tie.Need-or-owns-requires Inv-loop2 μ-loop2 Inv-loop3 μ-loop3 Inv-loop μ-loop
+or-owns-requires c κs = search needs
 
 mul-v : tie.Need-mul-v Inv-loop2 μ-loop2 Inv-loop3 μ-loop3 Inv-loop μ-loop
 mul-v c = search needs
@@ -223,7 +229,7 @@ loop3-less-2 c = omega arith
 
 loop3-again-2 : tie.Need-loop3-again-2 Inv-loop2 μ-loop2 Inv-loop3 μ-loop3 Inv-loop μ-loop
 loop3-again-2 c =
-    let a = c .before .before .before .before .before .before .before in
+    let a = c .before .before .before .before .before .before .before .before in
     let o = a .before .before .before .before .before .before .before in
     let b = o .loop .self in
     let word = a .before .before .before .before .loop2 .word in
@@ -231,11 +237,13 @@ loop3-again-2 c =
     let h : a .loop3 .j < length (b .turns) = omega (arith, o .loop .inv .0, o .loop .inv .2) in
     let k : a .loop3 .j < length l = omega (arith, h, ap length (a .loop3 .inv .1), length-mapFirst (turned word) (a .loop3 .j) (b .turns)) in (
       omega arith,
-      mapFirst-turn (turned word) (a .loop3 .j) (b .turns) _ h (a .loop3 .inv .1) (c .before .turned .ensures),
+      mapFirst-turn (turned word) (a .loop3 .j) (b .turns) _ h (a .loop3 .inv .1) (c .before .before .turned .ensures),
       a .loop3 .inv .2,
       a .loop3 .inv .3,
       a .loop3 .inv .4,
-      found-set (meets WasTold) (a .loop3 .j) l _ k (a .loop3 .inv .5) (c .or-told .ensures),
+      found-set (meets WasTold) (a .loop3 .j) l _ k (a .loop3 .inv .5) (c .before .or-told .ensures),
+      a .loop3 .inv .6,
+      found-set (meets ToldOwns) (a .loop3 .j) l _ k (a .loop3 .inv .7) (c .or-owns .ensures),
     )
 
 wrapping-add-u32-requires-2 : tie.Need-wrapping-add-u32-requires-2 Inv-loop2 μ-loop2 Inv-loop3 μ-loop3 Inv-loop μ-loop
@@ -243,6 +251,9 @@ wrapping-add-u32-requires-2 c κs = search needs
 
 generator-next-requires : tie.Need-generator-next-requires Inv-loop2 μ-loop2 Inv-loop3 μ-loop3 Inv-loop μ-loop
 generator-next-requires c κs = search needs
+
+latest-requires : tie.Need-latest-requires Inv-loop2 μ-loop2 Inv-loop3 μ-loop3 Inv-loop μ-loop
+latest-requires c κs = search needs
 
 sub-left : tie.Need-sub-left Inv-loop2 μ-loop2 Inv-loop3 μ-loop3 Inv-loop μ-loop
 sub-left c = omega arith
@@ -252,19 +263,18 @@ loop-less-2 c = omega arith
 
 loop-again-2 : tie.Need-loop-again-2 Inv-loop2 μ-loop2 Inv-loop3 μ-loop3 Inv-loop μ-loop
 loop-again-2 c =
-    let a = c .before .before .before .before in
+    let a = c .before .before .before .before .before in
     let d = a .before .before .before .before in
     let o = d .before .before .before in
     let b = o .loop .self in
     let word = d .loop2 .word in
     let i : d .loop2 .i ≡ attachedTo b = omega (arith, o .loop .inv .1) in
     let j : a .loop3 .j ≡ attachedTo b = omega (arith, o .loop .inv .1) in
-    let next = slot-is b _ word (all-spoken b (d .loop2 .i) i (d .loop2 .inv .1))
-    (a .loop3 .inv .1 ∙ ap (λ (k : ℕ). mapFirst (turned word) k (b .turns)) j)
-    (a .loop3 .inv .2)
-    (c .before .before .wrapping-add-u322 .ensures ∙ ap (λ (s : ℕ). (s + 1) % 2 ^ 32) (a .loop3 .inv .3))
-    refl
-    (c .before .generator-next .ensures ∙ ap (λ (q : ℕ). generatorNext q word) (a .loop3 .inv .4)) in
+    let turns = a .loop3 .inv .1 ∙ ap (λ (k : ℕ). mapFirst (turned word) k (b .turns)) j in
+    let number = c .before .before .before .wrapping-add-u322 .ensures ∙ ap (λ (s : ℕ). (s + 1) % 2 ^ 32) (a .loop3 .inv .3) in
+    let next = slot-is b _ word (all-spoken b (d .loop2 .i) i (d .loop2 .inv .1)) turns (a .loop3 .inv .2) number refl
+    (c .before .before .generator-next .ensures ∙ ap (λ (q : ℕ). generatorNext q word) (a .loop3 .inv .4))
+    (began-is b word (a .loop3 .self .turns) (a .loop3 .j) j turns (a .loop3 .inv .7) number (a .loop3 .inv .6) (c .before .latest .ensures)) in
     let same = same-count b _ (a .loop3 .inv .2) in
     let told = all-asked _ WasTold (a .loop3 .j) (j ∙ same) (a .loop3 .inv .5) in (
       o .loop .inv .0,
@@ -279,19 +289,18 @@ returns c = sym (c .before .loop .inv .3 ∙ ends (c .before .loop .self) (c .be
 
 returns-2 : tie.Need-returns-2 Inv-loop2 μ-loop2 Inv-loop3 μ-loop3 Inv-loop μ-loop
 returns-2 c =
-    let a = c .before .before .before .before in
+    let a = c .before .before .before .before .before in
     let d = a .before .before .before .before in
     let o = d .before .before .before in
     let b = o .loop .self in
     let word = d .loop2 .word in
     let i : d .loop2 .i ≡ attachedTo b = omega (arith, o .loop .inv .1) in
     let j : a .loop3 .j ≡ attachedTo b = omega (arith, o .loop .inv .1) in
-    let next = slot-is b _ word (all-spoken b (d .loop2 .i) i (d .loop2 .inv .1))
-    (a .loop3 .inv .1 ∙ ap (λ (k : ℕ). mapFirst (turned word) k (b .turns)) j)
-    (a .loop3 .inv .2)
-    (c .before .before .wrapping-add-u322 .ensures ∙ ap (λ (s : ℕ). (s + 1) % 2 ^ 32) (a .loop3 .inv .3))
-    refl
-    (c .before .generator-next .ensures ∙ ap (λ (q : ℕ). generatorNext q word) (a .loop3 .inv .4)) in
+    let turns = a .loop3 .inv .1 ∙ ap (λ (k : ℕ). mapFirst (turned word) k (b .turns)) j in
+    let number = c .before .before .before .wrapping-add-u322 .ensures ∙ ap (λ (s : ℕ). (s + 1) % 2 ^ 32) (a .loop3 .inv .3) in
+    let next = slot-is b _ word (all-spoken b (d .loop2 .i) i (d .loop2 .inv .1)) turns (a .loop3 .inv .2) number refl
+    (c .before .before .generator-next .ensures ∙ ap (λ (q : ℕ). generatorNext q word) (a .loop3 .inv .4))
+    (began-is b word (a .loop3 .self .turns) (a .loop3 .j) j turns (a .loop3 .inv .7) number (a .loop3 .inv .6) (c .before .latest .ensures)) in
     let same = same-count b _ (a .loop3 .inv .2) in
     let told = all-asked _ WasTold (a .loop3 .j) (j ∙ same) (a .loop3 .inv .5) in
     sym (o .loop .inv .3 ∙ stops b _ (o .loop .left) (d .before .before .loop-test .taken) next (sym told ∙ c .if4 .taken))
@@ -340,6 +349,7 @@ run-spec =
     element-copy-out-u-2
     turned-requires
     or-told-requires
+    or-owns-requires
     mul-v
     element-set-from-v
     add-j-2
@@ -347,6 +357,7 @@ run-spec =
     loop3-again-2
     wrapping-add-u32-requires-2
     generator-next-requires
+    latest-requires
     sub-left
     loop-less-2
     loop-again-2

@@ -1,24 +1,34 @@
 -- `bus::bus::Bus::slot_heard` meets its contract. Assumes nothing.
 use borrow.Author.Needs.{needs}
-use mathlib.Core.Path.{_≡_, refl, sym, _∙_}
-use Prim.Native.Nat.{_≤_, _<_, _-_}
+use mathlib.Core.Path.{_≡_, refl, sym, ap, _∙_}
+use mathlib.Core.Bool.{false}
+use mathlib.Core.List.{[]}
+use Prim.Native.Nat.{ℕ, _+_, _-_, _%_, _^_, _≤_, _<_}
 use native.Mathlib.Omega.{arith}
 use lib.ListN.{length}
+use Rattle.laws.specs.First.{firstFrom}
 use Rattle.laws.proofs.Lists.{length-mapped}
+use Rattle.bus.specs.declared.find.Query.the-variants.{ToldOwns}
 use Rattle.bus.specs.Bus.{seats, attachedTo}
-use Rattle.bus.specs.Slot.{turned, mapFirst, slotHeard}
-use Rattle.bus.proofs.Loops.{attached-fit, mapFirst-turn, mapFirst-passed}
-use Rattle.bus.proofs.PassedBy.{still-turned}
+use Rattle.bus.specs.Find.{meets}
+use Rattle.bus.specs.Slot.{turned, mapFirst, ownsAmong}
+use Rattle.bus.proofs.Loops.{attached-fit, length-mapFirst, mapFirst-turn, mapFirst-passed, found-passed, found-set}
+use Rattle.bus.proofs.PassedBy.{still-unowned, still-turned}
+use Rattle.bus.proofs.Strides.{heard-is, began-is}
 use Rattle.bus.proofs.bus.Bus.slot_heard.Statement.{statement}
 use Rattle.bus.proofs.bus.Bus.slot_heard.Tie as tie
 
 abbrev Inv-loop : tie.InvT-loop
-Inv-loop heard self₀ n quiet i₀ self i =
+Inv-loop heard self₀ n quiet owns₀ i₀ self owns i =
     (i ≤ n) × (n ≤ seats) × (n ≡ attachedTo self₀) × (length (self₀ .turns) ≡ seats) × (self .turns ≡ mapFirst (turned heard) i (self₀ .turns))
-    × (self .count ≡ self₀ .count) × (self .slot ≡ self₀ .slot)
+    × (self .count ≡ self₀ .count) × (self .slot ≡ self₀ .slot) × (self .began ≡ self₀ .began) × (owns ≡ ownsAmong i (self .turns))
 
 abbrev μ-loop : tie.MeasureT-loop
-μ-loop heard self₀ n quiet i₀ self i = n - i
+μ-loop heard self₀ n quiet owns₀ i₀ self owns i = n - i
+
+nobody : false ≡ ownsAmong 0 []
+unfolding firstFrom
+nobody = refl
 
 attached-requires : tie.Need-attached-requires Inv-loop μ-loop
 attached-requires c κs = search needs
@@ -29,7 +39,7 @@ generator-next-requires c κs = search needs
 loop-holds : tie.Need-loop-holds Inv-loop μ-loop
 loop-holds c =
     let e = c .before .attached .ensures in
-    (search needs, rw e (attached-fit _), e, search (needs, length-mapped), refl, refl, refl)
+    (search needs, rw e (attached-fit _), e, search (needs, length-mapped), refl, refl, refl, refl, nobody)
 
 mul-t : tie.Need-mul-t Inv-loop μ-loop
 mul-t c = search needs
@@ -50,14 +60,19 @@ loop-again : tie.Need-loop-again Inv-loop μ-loop
 loop-again c =
     let a = c .before .before .before .before in
     let g = a .before .before .before .args in
-    let h : a .loop .i < length (g .t1 .turns) = omega arith in (
+    let h : a .loop .i < length (g .t1 .turns) = omega arith in
+    let l = a .loop .self .turns in
+    let k : a .loop .i < length l = omega (arith, h, ap length (a .loop .inv .4), length-mapFirst (turned (g .heard)) (a .loop .i) (g .t1 .turns)) in
+    let still = sym (c .before .still .ensures) ∙ c .if1 .taken in (
       omega arith,
       a .loop .inv .1,
       a .loop .inv .2,
       a .loop .inv .3,
-      mapFirst-passed (turned (g .heard)) _ _ _ h (a .loop .inv .4) (still-turned (g .heard) _ (sym (c .before .still .ensures) ∙ c .if1 .taken)),
+      mapFirst-passed (turned (g .heard)) _ _ _ h (a .loop .inv .4) (still-turned (g .heard) _ still),
       a .loop .inv .5,
       a .loop .inv .6,
+      a .loop .inv .7,
+      found-passed (meets ToldOwns) (a .loop .i) l _ k (a .loop .inv .8) (still-unowned (g .heard) _ still),
     )
 
 mul-u : tie.Need-mul-u Inv-loop μ-loop
@@ -68,6 +83,9 @@ element-copy-out-u c = search needs
 
 turned-requires : tie.Need-turned-requires Inv-loop μ-loop
 turned-requires c κs = search needs
+
+or-owns-requires : tie.Need-or-owns-requires Inv-loop μ-loop
+or-owns-requires c κs = search needs
 
 mul-v : tie.Need-mul-v Inv-loop μ-loop
 mul-v c = search needs
@@ -83,34 +101,37 @@ loop-less-2 c = omega arith
 
 loop-again-2 : tie.Need-loop-again-2 Inv-loop μ-loop
 loop-again-2 c =
-    let a = c .before .before .before .before .before .before in
+    let a = c .before .before .before .before .before .before .before in
     let g = a .before .before .before .args in
-    let h : a .loop .i < length (g .t1 .turns) = omega arith in (
+    let h : a .loop .i < length (g .t1 .turns) = omega arith in
+    let l = a .loop .self .turns in
+    let k : a .loop .i < length l = omega (arith, h, ap length (a .loop .inv .4), length-mapFirst (turned (g .heard)) (a .loop .i) (g .t1 .turns)) in (
       omega arith,
       a .loop .inv .1,
       a .loop .inv .2,
       a .loop .inv .3,
-      mapFirst-turn (turned (g .heard)) _ _ _ h (a .loop .inv .4) (c .turned .ensures),
+      mapFirst-turn (turned (g .heard)) _ _ _ h (a .loop .inv .4) (c .before .turned .ensures),
       a .loop .inv .5,
       a .loop .inv .6,
+      a .loop .inv .7,
+      found-set (meets ToldOwns) (a .loop .i) l _ k (a .loop .inv .8) (c .or-owns .ensures),
     )
 
 wrapping-add-u32-requires : tie.Need-wrapping-add-u32-requires Inv-loop μ-loop
 wrapping-add-u32-requires c κs = search needs
 
+latest-requires : tie.Need-latest-requires Inv-loop μ-loop
+latest-requires c κs = search needs
+
 returns : tie.Need-returns Inv-loop μ-loop
-unfolding slotHeard
 returns c =
-    let a = c .before .before in
-    let e : a .loop .i ≡ attachedTo (a .before .before .before .args .t1) = omega arith in
-    simp (
-      a .loop .inv .4,
-      a .loop .inv .5,
-      c .wrapping-add-u32 .ensures,
-      a .loop .inv .6,
-      a .before .generator-next .ensures,
-      e,
-    )
+    let a = c .before .before .before in
+    let g = a .before .before .before .args in
+    let e : a .loop .i ≡ attachedTo (g .t1) = omega arith in
+    let turns = a .loop .inv .4 ∙ ap (λ (k : ℕ). mapFirst (turned (g .heard)) k (g .t1 .turns)) e in
+    let number = c .before .wrapping-add-u32 .ensures ∙ ap (λ (s : ℕ). (s + 1) % 2 ^ 32) (a .loop .inv .6) in
+    heard-is (g .t1) _ (g .heard) turns (a .loop .inv .5) number refl (a .before .generator-next .ensures)
+    (began-is (g .t1) (g .heard) (a .loop .self .turns) (a .loop .i) e turns (a .loop .inv .8) number (a .loop .inv .7) (c .latest .ensures))
 
 pub slot-heard-spec : {M : Type 1} → statement M
 slot-heard-spec =
@@ -130,10 +151,12 @@ slot-heard-spec =
     mul-u
     element-copy-out-u
     turned-requires
+    or-owns-requires
     mul-v
     element-set-from-v
     add-i-2
     loop-less-2
     loop-again-2
     wrapping-add-u32-requires
+    latest-requires
     returns)
