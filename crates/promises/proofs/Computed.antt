@@ -1,4 +1,5 @@
 -- Computed runs that meet the hypotheses of the theorems.
+pub mod ElapsedRuns
 pub mod FailedRuns
 pub mod FirstSlotWin
 pub mod FormWitnesses

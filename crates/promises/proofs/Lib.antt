@@ -2,6 +2,7 @@ pub mod AcceptedHeld
 pub mod AnyOrder
 pub mod Computed
 pub mod Contest
+pub mod ElapsedIsTrue
 pub mod HandedOut
 pub mod OneOwner
 pub mod Refused

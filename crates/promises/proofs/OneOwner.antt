@@ -52,7 +52,7 @@ unfolding fresh
 fresh-follows f a m =
     record { possible = fresh-possible a m; owns = λ e. absurd (false≢true e); admitted = λ e. absurd (false≢true e) }
 
-ready-follows : {f : FirstHeard} (s : Station) → Follows f s → Follows f (ready s)
+pub ready-follows : {f : FirstHeard} (s : Station) → Follows f s → Follows f (ready s)
 unfolding answering
 ready-follows {f} s w =
     record {

@@ -1,5 +1,6 @@
 -- What several theorems rest on: the seats after each call, what holds of every station that calls bring about.
 pub mod Arrays
+pub mod Asked
 pub mod AtPhase
 pub mod FitKept
 pub mod InStep

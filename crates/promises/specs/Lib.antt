@@ -1,6 +1,7 @@
 pub mod Accepted
 pub mod Calls
 pub mod Contest
+pub mod Elapsed
 pub mod Fit
 pub mod Heard
 pub mod Orders

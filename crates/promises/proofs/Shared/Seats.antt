@@ -49,7 +49,7 @@ either-false false t e = (refl, e)
 -- the bus with a newcomer in the next seat
 abbrev pub withNewcomer : Bus → ℕ → Bool → Bus
 withNewcomer b a m =
-    record { turns = set (b .turns) (b .count) (newcomer a m); count = b .count + 1; slot = b .slot; ran = b .ran; quiet = b .quiet }
+    record { turns = set (b .turns) (b .count) (newcomer a m); count = b .count + 1; slot = b .slot; ran = b .ran; quiet = b .quiet; began = b .began }
 
 -- a seat with a telegram more
 abbrev pub holdingMore : Turn → Telegram → Turn
