@@ -6,15 +6,14 @@ use mathlib.Core.List.{List, [], _∷_, _++_, map}
 use Prim.Native.Nat.{ℕ}
 use lib.ListN.{length}
 use Rattle.laws.proofs.FirstIs.{Every, none, every-append, every-behind}
-use Rattle.bus.specs.Events.{events}
+use Rattle.bus.specs.Events.{Line, events}
 use Rattle.bus.specs.declared.bus.Bus.{Bus}
 use Rattle.promises.specs.Calls.{ByteUses, Reachable}
 use Rattle.promises.proofs.Shared.Uses.{on-reachable, reachable-use}
-use Rattle.log.specs.Latest.{joined, longestRun, linesOf}
+use Rattle.log.specs.Latest.{joined, longestRun}
 use Rattle.log.specs.Log.{withinLimits, freshFor, setUpFor, isOf, emptied}
 use Rattle.log.specs.Note.{noteIn}
 use Rattle.log.specs.ReadBack.{readEntries}
-use Rattle.log.specs.Record.{Line}
 use Rattle.log.specs.Ring.{Ring, ring, bytesFrom, heldBytes}
 use Rattle.log.specs.declared.log.SetUp.the-variants.{Ready, BadLength}
 use Rattle.log.proofs.DiaryReadsBack.{events-numbered}
@@ -51,7 +50,7 @@ set-up-held bytes d all h = go (withinLimits (length bytes)) refl
     go false w = h
 
 note-held : (d : Ring) (all : List Line) (b : Bus) → Reachable b → Held d all
-    → Held (noteIn d b .ring) (cond (isOf (d .log) (length (d .bytes))) (all ++ linesOf b) all)
+    → Held (noteIn d b .ring) (cond (isOf (d .log) (length (d .bytes))) (all ++ events b) all)
 unfolding noteIn
 note-held d all b r before = rw none-own before
 note-held d all b r (since room g) =
@@ -63,8 +62,8 @@ empty-held d all before = before
 empty-held d all (since room g) = since room (record { sound = sound-emptied d (g .sound); room = g .room; bytes = refl })
 
 -- the lines of a bus that calls bring about
-lines-numbered : (b : Bus) → Reachable b → Every Numbered (linesOf b)
-lines-numbered b r = events-numbered (b .slot) (events b) (reachable-numbered b r)
+lines-numbered : (b : Bus) → Reachable b → Every Numbered (events b)
+lines-numbered b r = events-numbered b (reachable-numbered b r)
 
 either : {P : Line → Type 0} (t : Bool) {ls ms : List Line} → Every P ls → Every P ms → Every P (cond t ls ms)
 either true p q = p

@@ -3,13 +3,12 @@ use mathlib.Core.Bool.{cond}
 use mathlib.Core.List.{List, [], _∷_, _++_}
 use Prim.Native.Nat.{ℕ}
 use lib.ListN.{length}
+use Rattle.bus.specs.Events.{Line, events}
 use Rattle.bus.specs.Bus.{poweredOn}
 use Rattle.bus.specs.declared.bus.Bus.{Bus}
 use Rattle.promises.specs.Calls.{Use, afterUse}
-use Rattle.log.specs.Latest.{linesOf}
 use Rattle.log.specs.Log.{freshFor, withinLimits, setUpFor, isOf, emptied}
 use Rattle.log.specs.Note.{noteIn}
-use Rattle.log.specs.Record.{Line}
 use Rattle.log.specs.Ring.{Ring, ring}
 use Rattle.log.specs.declared.log.SetUp.{SetUp}
 use Rattle.log.specs.declared.log.SetUp.the-variants.{Ready, BadLength}
@@ -69,7 +68,7 @@ usesIn (a ∷ acts) = usesOf a ++ usesIn acts
 abbrev pub notedAs : Beside → List Line → Act → List Line
 notedAs w all (onBus u) = all
 notedAs w all (setUp bytes) = cond (withinLimits (length bytes)) [] all
-notedAs w all note = cond (isOf (w .ring .log) (length (w .ring .bytes))) (all ++ linesOf (w .bus)) all
+notedAs w all note = cond (isOf (w .ring .log) (length (w .ring .bytes))) (all ++ events (w .bus)) all
 notedAs w all empty = []
 notedAs w all (read out) = all
 notedAs w all (kth k out) = all

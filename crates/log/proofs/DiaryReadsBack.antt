@@ -6,12 +6,14 @@ use Prim.Native.Nat.{ℕ, _^_, _<_}
 use lib.ListN.{length}
 use Rattle.laws.proofs.FirstIs.{Every, none, next, every-append, every-behind}
 use Rattle.station.specs.Events.{Event}
-use Rattle.bus.specs.Events.{events}
+use Rattle.bus.specs.Events.{Line, line, tellings, events}
+use Rattle.bus.specs.Time.{timeOf}
 use Rattle.bus.specs.declared.bus.Bus.{Bus}
+use Rattle.bus.specs.declared.time.Time.{Time}
+use Rattle.bus.proofs.Elapsed.{elapsed-32}
 use Rattle.log.specs.Latest.{longestRun, allLines}
 use Rattle.log.specs.Log.{withinLimits}
 use Rattle.log.specs.ReadBack.{readEntries}
-use Rattle.log.specs.Record.{Line, line}
 use Rattle.log.specs.Ring.{heldBytes}
 use Rattle.log.specs.Roomy.{AllRoomy}
 use Rattle.log.proofs.HoldsTheLatest.{logAfter, log-holds-the-latest}
@@ -22,14 +24,19 @@ use Rattle.log.proofs.ReadsBack.{Numbered, entryOf, log-reads-back}
 abbrev pub Slot32 : Bus → Type 0
 Slot32 b = b .slot < 2 ^ 32
 
-pub events-numbered : (slot : ℕ) (es : List Event) → slot < 2 ^ 32 → Every Numbered (map (line slot) es)
-events-numbered slot [] h = none
-events-numbered slot (e ∷ es) h = next h (events-numbered slot es h)
+timed-numbered : (w : Time) (es : List Event) → w .slot < 2 ^ 32 → w .elapsed < 2 ^ 32 → Every Numbered (map (line w) es)
+timed-numbered w [] h k = none
+timed-numbered w (e ∷ es) h k = next (h, k) (timed-numbered w es h k)
+
+-- the events of a slot carry numbers of 32 bits
+pub events-numbered : (b : Bus) → Slot32 b → Every Numbered (events b)
+unfolding events timeOf
+events-numbered b h = timed-numbered (timeOf b) (tellings b) h (elapsed-32 b)
 
 lines-numbered : {bs : List Bus} → Every Slot32 bs → Every Numbered (allLines bs)
 unfolding allLines
 lines-numbered none = none
-lines-numbered (next {a = b} h hs) = every-append (events-numbered (b .slot) (events b) h) (lines-numbered hs)
+lines-numbered (next {a = b} h hs) = every-append (events-numbered b h) (lines-numbered hs)
 
 -- the longest run of latest lines, from the log's bytes alone
 pub diary-reads-back : (bytes : List ℕ) (bs : List Bus) → withinLimits (length bytes) ≡ true → AllRoomy bs → Every Slot32 bs

@@ -16,10 +16,11 @@ use Rattle.station.specs.declared.station.Turn.{Turn}
 use Rattle.wire.specs.Form.{holding}
 use Rattle.wire.specs.declared.part.Telegram.{Telegram}
 use Rattle.bus.specs.Events as bus
-use Rattle.bus.specs.Events.{those, events, comesLast}
+use Rattle.bus.specs.Events.{those, comesLast, tellings, Line, line, events}
+use Rattle.bus.specs.Time.{timeOf}
 use Rattle.bus.specs.declared.bus.Bus.{Bus}
-use Rattle.log.specs.Latest.{linesOf}
-use Rattle.log.specs.Record.{Line, line, tagOf, slotBytes, valueOf, recordOf, givenValues, answerValues}
+use Rattle.bus.specs.declared.time.Time.{Time}
+use Rattle.log.specs.Record.{tagOf, fourBytes, othersOf, valueOf, recordOf, givenValues, answerValues}
 use Rattle.log.specs.Roomy.{Roomy, RoomyTurns}
 use Rattle.log.specs.Roomy as roomy
 
@@ -47,70 +48,73 @@ formed l =
       counted = omega arith;
     }
 
--- 5 bytes of slot and station, and the other values
-pub length-value : (l : Line) → length (valueOf l) ≡ 5 + length (l .event .values)
-unfolding valueOf slotBytes
+-- 5 bytes of slot and station, and the others
+pub length-value : (l : Line) → length (valueOf l) ≡ 5 + length (othersOf l)
+unfolding valueOf fourBytes
 length-value l = omega arith
 
 -- with the tag and the length 3 bytes more
-pub length-record : (l : Line) → length (recordOf l) ≡ 8 + length (l .event .values)
+pub length-record : (l : Line) → length (recordOf l) ≡ 8 + length (othersOf l)
 unfolding recordOf
 length-record l = omega (arith, length-value l)
 
 -- ---- the longest
 
-abbrev Short : Event → Type 0
-Short e = length (e .values) ≤ 20
+module _ (w : Time) where
+  abbrev Short : Event → Type 0
+  Short e = length (othersOf (line w e)) ≤ 20
 
--- what a station is told
-short-told : (w : Told) (a : ℕ) (t : Telegram) → length (t .load .bytes) ≡ 16 → Every Short (eventsAs w a t)
-short-told Silence a t h = none
-short-told Owns a t h = next {a = event a owns []} (omega arith) none
-short-told Taken a t h = next {a = event a taken []} (omega arith) none
-short-told (Failed f) a t h = next {a = event a failed (numberOf f ∷ [])} (omega arith) none
-short-told Free a t h = next {a = freeEvent a t} (omega arith) none
-short-told (FailedFree f) a t h = next {a = event a failed (numberOf f ∷ [])} (omega arith) (next {a = freeEvent a t} (omega arith) none)
-short-told Given a t h = next {a = event a given (givenValues t)} (omega (arith, length-take (t .load .nn) (t .load .bytes))) none
-short-told Answered a t h = next {a = event a answer (answerValues t)} (omega (arith, length-take (t .load .nn) (t .load .bytes))) none
+  -- what a station is told
+  short-told : (s : Told) (a : ℕ) (t : Telegram) → length (t .load .bytes) ≡ 16 → Every Short (eventsAs s a t)
+  unfolding fourBytes
+  short-told Silence a t h = none
+  short-told Owns a t h = next {a = event a owns []} (omega arith) none
+  short-told Taken a t h = next {a = event a taken []} (omega arith) none
+  short-told (Failed f) a t h = next {a = event a failed (numberOf f ∷ [])} (omega arith) none
+  short-told Free a t h = next {a = freeEvent a t} (omega arith) none
+  short-told (FailedFree f) a t h = next {a = event a failed (numberOf f ∷ [])} (omega arith) (next {a = freeEvent a t} (omega arith) none)
+  short-told Given a t h = next {a = event a given (givenValues t)} (omega (arith, length-take (t .load .nn) (t .load .bytes))) none
+  short-told Answered a t h = next {a = event a answer (answerValues t)} (omega (arith, length-take (t .load .nn) (t .load .bytes))) none
 
-short-those : (last : Bool) {es : List Event} → Every Short es → Every Short (those last es)
-short-those last none = none
-short-those true (next {a = e} {l = es} p ps) = go (comesLast (e .word)) (short-those true ps)
-  where
-    go : (t : Bool) → Every Short (those true es) → Every Short (cond t (e ∷ those true es) (those true es))
-    go true qs = next p qs
-    go false qs = qs
-short-those false (next {a = e} {l = es} p ps) = go (comesLast (e .word)) (short-those false ps)
-  where
-    go : (t : Bool) → Every Short (those false es) → Every Short (cond t (those false es) (e ∷ those false es))
-    go true qs = qs
-    go false qs = next p qs
+  short-those : (last : Bool) {es : List Event} → Every Short es → Every Short (those last es)
+  short-those last none = none
+  short-those true (next {a = e} {l = es} p ps) = go (comesLast (e .word)) (short-those true ps)
+    where
+      go : (t : Bool) → Every Short (those true es) → Every Short (cond t (e ∷ those true es) (those true es))
+      go true qs = next p qs
+      go false qs = qs
+  short-those false (next {a = e} {l = es} p ps) = go (comesLast (e .word)) (short-those false ps)
+    where
+      go : (t : Bool) → Every Short (those false es) → Every Short (cond t (those false es) (e ∷ those false es))
+      go true qs = qs
+      go false qs = next p qs
 
-short-append : {es fs : List Event} → Every Short es → Every Short fs → Every Short (es ++ fs)
-short-append none qs = qs
-short-append (next p ps) qs = next p (short-append ps qs)
+  short-append : {es fs : List Event} → Every Short es → Every Short fs → Every Short (es ++ fs)
+  short-append none qs = qs
+  short-append (next p ps) qs = next p (short-append ps qs)
 
-short-lines : (last : Bool) {ts : List Turn} → RoomyTurns ts → Every Short (bus.linesOf last ts)
-unfolding tells
-short-lines last roomy.none = none
-short-lines last (roomy.next {t = t} h hs) =
-    short-append (short-those last (short-told (t .told) (t .station .address) (t .station .part) h)) (short-lines last hs)
+  short-lines : (last : Bool) {ts : List Turn} → RoomyTurns ts → Every Short (bus.linesOf last ts)
+  unfolding tells
+  short-lines last roomy.none = none
+  short-lines last (roomy.next {t = t} h hs) =
+      short-append (short-those last (short-told (t .told) (t .station .address) (t .station .part) h)) (short-lines last hs)
 
-short-events : (b : Bus) → Roomy b → Every Short (events b)
-unfolding events
-short-events b h = short-append (short-lines false h) (short-lines true h)
+  short-tellings : (b : Bus) → Roomy b → Every Short (tellings b)
+  unfolding tellings
+  short-tellings b h = short-append (short-lines false h) (short-lines true h)
 
 -- a line whose record has at most 28 bytes
 abbrev pub Short28 : Line → Type 0
 Short28 l = length (recordOf l) ≤ 28
 
-all-short : (slot : ℕ) {es : List Event} → Every Short es → Every Short28 (map (line slot) es)
-all-short slot none = none
-all-short slot (next {a = e} p ps) = next {a = line slot e} (omega (arith, length-record (line slot e))) (all-short slot ps)
+all-short : (w : Time) {es : List Event} → Every (Short w) es → Every Short28 (map (line w) es)
+all-short w none = none
+all-short w (next {a = e} p ps) = next {a = line w e} (omega (arith, length-record (line w e))) (all-short w ps)
 
 -- no record of a slot has more than 28 bytes
-pub longest-record : (b : Bus) → Roomy b → Every Short28 (linesOf b)
-longest-record b h = all-short (b .slot) (short-events b h)
+pub longest-record : (b : Bus) → Roomy b → Every Short28 (events b)
+unfolding events
+longest-record b h = all-short (timeOf b) (short-tellings (timeOf b) b h)
 
 -- a station that is told of a telegram with 16 data bytes
 unfoldable pub fullTurn : Turn
@@ -119,6 +123,6 @@ fullTurn =
     record { station = about (fresh 21 false) Silent full (holding []); told = Given }
 
 -- some record has 28 bytes
-pub longest-has-28 : (slot : ℕ) → map (λ (e : Event). length (recordOf (line slot e))) (tells fullTurn) ≡ 28 ∷ []
-unfolding fullTurn tells recordOf valueOf slotBytes
-longest-has-28 slot = refl
+pub longest-has-28 : (w : Time) → map (λ (e : Event). length (recordOf (line w e))) (tells fullTurn) ≡ 28 ∷ []
+unfolding fullTurn tells recordOf valueOf fourBytes
+longest-has-28 w = refl

@@ -2,18 +2,17 @@
 -- Assumes nothing.
 use mathlib.Core.Path.{_≡_, refl, ap, _∙_}
 use mathlib.Core.Bool.{true}
-use mathlib.Core.List.{List, [], _∷_, _++_, map, append-assoc, append-nil}
+use mathlib.Core.List.{List, [], _∷_, _++_, append-assoc, append-nil}
 use Prim.Native.Nat.{ℕ, _≤_}
 use native.Mathlib.Omega.{arith}
 use lib.ListN.{length}
 use Rattle.laws.proofs.FirstIs.{Every, none, next, every-append}
-use Rattle.station.specs.Events.{Event}
-use Rattle.bus.specs.Events.{events}
+use Rattle.bus.specs.Events.{Line, events}
 use Rattle.bus.specs.declared.bus.Bus.{Bus}
-use Rattle.log.specs.Latest.{joined, longestRun, linesOf, allLines}
+use Rattle.log.specs.Latest.{joined, longestRun, allLines}
 use Rattle.log.specs.Log.{withinLimits, freshFor, emptied}
 use Rattle.log.specs.Note.{notedAll, recordsOf, slotRecords, noteIn}
-use Rattle.log.specs.Record.{Line, line, recordOf}
+use Rattle.log.specs.Record.{recordOf}
 use Rattle.log.specs.Ring.{Ring, ring, bytesFrom, heldBytes}
 use Rattle.log.specs.Roomy.{Roomy, AllRoomy}
 use Rattle.log.specs.Roomy as roomy
@@ -29,19 +28,19 @@ use Rattle.log.proofs.Holds.{Holds}
 abbrev pub HoldsLatest : Ring → ℕ → List Line → Type 0
 HoldsLatest d room all = Holds d room (joined (longestRun room all))
 
--- some events of a slot, noted one after the other
-pub events-noted : (slot : ℕ) (es : List Event) (d : Ring) (room : ℕ) (all : List Line) → HoldsLatest d room all → Every Short28 (map (line slot) es)
-    → HoldsLatest (notedAll d (recordsOf slot es)) room (all ++ map (line slot) es)
+-- some lines, noted one after the other
+pub lines-noted : (ls : List Line) (d : Ring) (room : ℕ) (all : List Line) → HoldsLatest d room all → Every Short28 ls
+    → HoldsLatest (notedAll d (recordsOf ls)) room (all ++ ls)
 unfolding notedAll recordsOf
-events-noted slot [] d room all h none = rw append-nil h
-events-noted slot (e ∷ es) d room all h (next s ss) =
-    rw append-assoc at (events-noted slot es _ room (all ++ (line slot e ∷ [])) (latest-noted d room all (line slot e) h (omega arith)) ss)
+lines-noted [] d room all h none = rw append-nil h
+lines-noted (l ∷ ls) d room all h (next s ss) =
+    rw append-assoc at (lines-noted ls _ room (all ++ (l ∷ [])) (latest-noted d room all l h (omega arith)) ss)
 
 -- a slot, noted by the public call
 pub slot-noted : (d : Ring) (room : ℕ) (all : List Line) (b : Bus) → HoldsLatest d room all → Roomy b
-    → HoldsLatest (noteIn d b .ring) room (all ++ linesOf b)
+    → HoldsLatest (noteIn d b .ring) room (all ++ events b)
 unfolding noteIn slotRecords
-slot-noted d room all b h r = rw (own-buffer d (h .sound)) (events-noted (b .slot) (events b) d room all h (longest-record b r))
+slot-noted d room all b h r = rw (own-buffer d (h .sound)) (lines-noted (events b) d room all h (longest-record b r))
 
 -- some slots
 pub slots-noted : (d : Ring) (room : ℕ) (all : List Line) (bs : List Bus) → HoldsLatest d room all → AllRoomy bs
@@ -49,7 +48,7 @@ pub slots-noted : (d : Ring) (room : ℕ) (all : List Line) (bs : List Bus) → 
 unfolding notedSlots allLines
 slots-noted d room all [] h roomy.none = rw append-nil h
 slots-noted d room all (b ∷ bs) h (roomy.next r rs) =
-    rw append-assoc at (slots-noted _ room (all ++ linesOf b) bs (slot-noted d room all b h r) rs)
+    rw append-assoc at (slots-noted _ room (all ++ events b) bs (slot-noted d room all b h r) rs)
 
 -- ---- from the set-up on
 

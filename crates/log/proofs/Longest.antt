@@ -8,8 +8,9 @@ use native.Mathlib.Omega.{arith}
 use borrow.Author.Tests.{le-leb, lt-leb, leb-true, leb-false}
 use lib.Dec.{leb}
 use lib.ListN.{length, length-append}
+use Rattle.bus.specs.Events.{Line}
 use Rattle.log.specs.Latest.{joined, longestRun}
-use Rattle.log.specs.Record.{Line, recordOf}
+use Rattle.log.specs.Record.{recordOf}
 
 -- ---- records one behind the other
 

@@ -10,10 +10,11 @@ use lib.Dec.{ltb, leb}
 use lib.ListN.{length, getD, length-append}
 use Rattle.laws.specs.AtMost.{atMost}
 use Rattle.laws.proofs.AtMost.{at-most-same}
+use Rattle.bus.specs.Events.{Line}
 use Rattle.log.specs.declared.log.Log.{Log}
 use Rattle.log.specs.Latest.{joined, longestRun}
 use Rattle.log.specs.Note.{noted}
-use Rattle.log.specs.Record.{Line, recordOf}
+use Rattle.log.specs.Record.{recordOf}
 use Rattle.log.specs.Ring.{Ring, ring, byteAt, sizeOfOldest, without, isShort, roomFrom}
 use Rattle.log.proofs.Formed.{length-record}
 use Rattle.log.proofs.Longest.{length-first, joined-append, keptFor, kept-and-newest}

@@ -1,25 +1,43 @@
 -- The records read back as the lines that they were written from, so a line has one form and a record one meaning. Assumes nothing.
 use mathlib.Core.Path.{_≡_, refl, sym, ap, _∙_}
 use mathlib.Core.List.{List, [], _∷_, _++_, map}
-use mathlib.Core.Option.{some}
-use Prim.Native.Nat.{ℕ, zero, suc, _+_, _*_, _/_, _%_, _^_, _≤_, _<_}
+use mathlib.Core.Option.{Option, none, some}
+use Prim.Native.Nat.{ℕ, zero, suc, _+_, _-_, _*_, _/_, _%_, _^_, _≤_, _<_}
 use native.Mathlib.Omega.{arith}
-use lib.ListN.{length}
+use lib.ListN.{length, length-append}
 use lib.Seq.{take-append-seam, drop-append-seam}
-use Rattle.laws.proofs.FirstIs.{Every, none, next}
+use Rattle.laws.proofs.FirstIs as every
+use Rattle.laws.proofs.FirstIs.{Every}
 use Rattle.station.specs.Events.{Word, owns, taken, failed, free, given, answer}
+use Rattle.bus.specs.Events.{Line}
 use Rattle.log.specs.Latest.{joined}
-use Rattle.log.specs.ReadBack.{Entry, wordOf, entryIn, readFrom, readEntries}
-use Rattle.log.specs.Record.{Line, tagOf, slotBytes, valueOf, recordOf}
+use Rattle.log.specs.ReadBack.{Entry, wordOf, numberIn, valuesIn, elapsedIn, entryIn, readFrom, readEntries}
+use Rattle.log.specs.Record.{tagOf, fourBytes, othersAs, othersOf, valueOf, recordOf}
 use Rattle.log.proofs.OldestGoWhole.{lines-at-most}
+
+-- the elapsed slots, shown on free lines only
+abbrev pub shown : Word → ℕ → Option ℕ
+shown owns n = none
+shown taken n = none
+shown failed n = none
+shown free n = some n
+shown given n = none
+shown answer n = none
 
 -- what a line says
 abbrev pub entryOf : Line → Entry
-entryOf l = record { slot = l .slot; station = l .event .station; word = l .event .word; values = l .event .values }
+entryOf l =
+    record {
+      slot = l .time .slot;
+      station = l .event .station;
+      word = l .event .word;
+      values = l .event .values;
+      elapsed = shown (l .event .word) (l .time .elapsed);
+    }
 
--- its slot number has 32 bits
+-- its slot number and its elapsed slots have 32 bits
 abbrev pub Numbered : Line → Type 0
-Numbered l = l .slot < 2 ^ 32
+Numbered l = (l .time .slot < 2 ^ 32) × (l .time .elapsed < 2 ^ 32)
 
 word-back : (w : Word) → wordOf (tagOf w) ≡ some w
 unfolding wordOf
@@ -38,12 +56,41 @@ slot-back n h =
     let top : n / 256 / 256 / 256 % 256 ≡ n / 256 / 256 / 256 = omega arith in
     rw (third, second, top) (omega arith)
 
+number-back : (n : ℕ) (rest : List ℕ) → n < 2 ^ 32 → numberIn (fourBytes n ++ rest) ≡ n
+unfolding numberIn fourBytes
+number-back n rest h = slot-back n h
+
+-- what stands behind the station
+values-back : (w : Word) (vs : List ℕ) (n : ℕ) → valuesIn w (othersAs w vs n) ≡ vs
+unfolding valuesIn fourBytes
+values-back owns vs n = refl
+values-back taken vs n = refl
+values-back failed vs n = refl
+values-back free vs n =
+    let e : length (vs ++ fourBytes n) - 4 ≡ length vs = omega (arith, length-append vs (fourBytes n)) in
+    rw e (take-append-seam vs (fourBytes n))
+values-back given vs n = refl
+values-back answer vs n = refl
+
+elapsed-back : (w : Word) (vs : List ℕ) (n : ℕ) → n < 2 ^ 32 → elapsedIn w (othersAs w vs n) ≡ shown w n
+unfolding elapsedIn fourBytes
+elapsed-back owns vs n h = refl
+elapsed-back taken vs n h = refl
+elapsed-back failed vs n h = refl
+elapsed-back free vs n h =
+    let e : length (vs ++ fourBytes n) - 4 ≡ length vs = omega (arith, length-append vs (fourBytes n)) in
+    rw (e, drop-append-seam vs (fourBytes n)) (ap some (number-back n [] h))
+elapsed-back given vs n h = refl
+elapsed-back answer vs n h = refl
+
 entry-back : (l : Line) → Numbered l → entryIn (l .event .word) (valueOf l) ≡ entryOf l
-unfolding entryIn valueOf slotBytes
-entry-back l h = ap (λ (n : ℕ). entryWith n) (slot-back (l .slot) h)
-  where
-    entryWith : ℕ → Entry
-    entryWith n = record { slot = n; station = l .event .station; word = l .event .word; values = l .event .values }
+unfolding entryIn valueOf fourBytes
+entry-back l h =
+    let e = l .event in
+    let number = number-back (l .time .slot) (e .station ∷ othersOf l) (h .0) in
+    let values = values-back (e .word) (e .values) (l .time .elapsed) in
+    let elapsed = elapsed-back (e .word) (e .values) (l .time .elapsed) (h .1) in
+    λ i. record { slot = number i; station = e .station; word = e .word; values = values i; elapsed = elapsed i }
 
 -- one record, with anything behind it
 record-back : (k : ℕ) (l : Line) (rest : List ℕ) → Numbered l → readFrom (suc k) (recordOf l ++ rest) ≡ entryOf l ∷ readFrom k rest
@@ -55,18 +102,18 @@ record-back k l rest h =
 
 lines-back : (k : ℕ) {ls : List Line} → Every Numbered ls → length ls ≤ k → readFrom k (joined ls) ≡ map entryOf ls
 unfolding readFrom joined
-lines-back zero none f = refl
-lines-back zero (next n ns) f = absurd (omega arith)
-lines-back (suc k) none f = refl
-lines-back (suc k) (next {a = l} {l = ls} n ns) f =
+lines-back zero every.none f = refl
+lines-back zero (every.next n ns) f = absurd (omega arith)
+lines-back (suc k) every.none f = refl
+lines-back (suc k) (every.next {a = l} {l = ls} n ns) f =
     record-back k l (joined ls) n ∙ ap (λ (es : List Entry). entryOf l ∷ es) (lines-back k ns (omega arith))
 
 -- the records of some lines read back as these lines
 pub log-reads-back : (ls : List Line) → Every Numbered ls → readEntries (joined ls) ≡ map entryOf ls
 log-reads-back ls ns = lines-back (length (joined ls)) ns (lines-at-most ls)
 
--- two lines of one form say the same: the same slot, station, word and values
-pub one-form : (l m : Line) → l .slot < 2 ^ 32 → m .slot < 2 ^ 32 → recordOf l ≡ recordOf m → entryOf l ≡ entryOf m
+-- two lines of one form say the same: the same slot, station, word and values, and of free lines the same elapsed slots
+pub one-form : (l m : Line) → Numbered l → Numbered m → recordOf l ≡ recordOf m → entryOf l ≡ entryOf m
 one-form l m g h e = first (sym (record-back 0 l [] g) ∙ ap (λ (r : List ℕ). readFrom 1 (r ++ [])) e ∙ record-back 0 m [] h)
   where
     first : {a b : Entry} {x y : List Entry} → a ∷ x ≡ b ∷ y → a ≡ b

@@ -9,11 +9,12 @@ use borrow.Author.Tests.{eq-eqb, ne-eqb, lt-ltb, le-leb, lt-leb, leb-true, leb-f
 use lib.Dec.{leb}
 use lib.ListN.{length, take, drop, length-append, drop-of-length-le}
 use lib.Seq.{sets-eq, take-append-seam, drop-append-seam}
+use Rattle.bus.specs.Events.{Line}
 use Rattle.log.specs.declared.log.Said.the-variants.{Done, NoRecord, NoRoom}
 use Rattle.log.specs.Fitting.{fittingRun}
 use Rattle.log.specs.Latest.{joined}
 use Rattle.log.specs.Read.{copying, saying, copyOf, fittingFrom, readInto, restAfter, oldestInto, recordInto}
-use Rattle.log.specs.Record.{Line, recordOf}
+use Rattle.log.specs.Record.{recordOf}
 use Rattle.log.specs.Ring.{Ring, ring, bytesFrom, heldBytes, sizeOfOldest, without}
 use Rattle.log.specs.Sound.{Sound}
 use Rattle.log.proofs.Formed.{length-record}

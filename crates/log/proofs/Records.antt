@@ -10,89 +10,98 @@ use Rattle.wire.specs.Form.{bytesOf, countOf}
 use Rattle.wire.specs.declared.part.Load.{Load}
 use Rattle.wire.specs.declared.part.Telegram.{Telegram}
 use Rattle.wire.proofs.Filling.{counted-length}
-use Rattle.station.specs.Events.{Word, failed, free, Event, event, freeEvent, tells}
+use Rattle.station.specs.Events.{owns, taken, failed, free, Event, event, freeEvent, tells}
 use Rattle.station.specs.declared.station.Turn.{Turn}
-use Rattle.bus.specs.Bus.{attachedTo}
-use Rattle.bus.specs.Events.{those, linesOf, events}
+use Rattle.bus.specs.Bus.{attachedTo, attachedTurns}
+use Rattle.bus.specs.Events.{those, linesOf, tellings, line, events}
+use Rattle.bus.specs.Time.{timeOf}
 use Rattle.bus.specs.declared.bus.Bus.{Bus}
-use Rattle.log.specs.Record.{line, tagOf, slotBytes, valueOf, recordOf, headOf}
+use Rattle.bus.specs.declared.time.Time.{Time}
+use Rattle.log.specs.Record.{tagOf, fourBytes, othersOf, valueOf, recordOf, headOf}
 use Rattle.log.specs.Ring.{Ring, ring, roomFor, pushed}
-use Rattle.log.specs.Note.{noted, notedAll, recordsOf, slotRecords, begun, written, passRecords}
+use Rattle.log.specs.Note.{noted, notedAll, recordsOf, slotRecords, begun, written, recordsAt, passRecords}
 use Rattle.log.proofs.Formed.{length-value, length-record}
 use Rattle.log.proofs.Written.{pushed-append, both, both-noted, piece-noted, finished-noted}
 
 -- what stands before the other values, and they
-pub record-written : (slot : ℕ) (e : Event) → headOf (tagOf (e .word)) (length (e .values)) slot (e .station) ++ e .values ≡ recordOf (line slot e)
-unfolding headOf recordOf valueOf slotBytes
-record-written slot e = rw (length-value (line slot e))
+pub record-written : (time : Time) (e : Event) → headOf (tagOf (e .word)) (length (othersOf (line time e))) (time .slot) (e .station) ++ othersOf (line time e) ≡ recordOf (line time e)
+unfolding headOf recordOf valueOf fourBytes
+record-written time e = rw (length-value (line time e))
 
 -- an event is noted
-pub written-noted : (d : Ring) (slot : ℕ) (e : Event) → written d (tagOf (e .word)) slot (e .station) (e .values) ≡ noted d (recordOf (line slot e))
+pub written-noted : (d : Ring) (time : Time) (e : Event) → written d (tagOf (e .word)) (time .slot) (e .station) (othersOf (line time e)) ≡ noted d (recordOf (line time e))
 unfolding written begun noted
-written-noted d slot e =
-    pushed-append (ring (d .bytes) (roomFor (8 + length (e .values)) (d .bytes) (d .log))) (headOf (tagOf (e .word)) (length (e .values)) slot (e .station)) (e .values)
-    ∙ ap (λ (v : List ℕ). pushed (ring (d .bytes) (roomFor (8 + length (e .values)) (d .bytes) (d .log))) v) (record-written slot e)
-    ∙ ap (λ (n : ℕ). pushed (ring (d .bytes) (roomFor n (d .bytes) (d .log))) (recordOf (line slot e))) (sym (length-record (line slot e)))
+written-noted d time e =
+    pushed-append (ring (d .bytes) (roomFor (8 + length (othersOf (line time e))) (d .bytes) (d .log))) (headOf (tagOf (e .word)) (length (othersOf (line time e))) (time .slot) (e .station)) (othersOf (line time e))
+    ∙ ap (λ (v : List ℕ). pushed (ring (d .bytes) (roomFor (8 + length (othersOf (line time e))) (d .bytes) (d .log))) v) (record-written time e)
+    ∙ ap (λ (n : ℕ). pushed (ring (d .bytes) (roomFor n (d .bytes) (d .log))) (recordOf (line time e))) (sym (length-record (line time e)))
 
 -- the records of some events, and behind them those of others
-pub records-append : (slot : ℕ) (es fs : List Event) → recordsOf slot (es ++ fs) ≡ recordsOf slot es ++ recordsOf slot fs
+pub records-append : (time : Time) (es fs : List Event) → recordsAt time (es ++ fs) ≡ recordsAt time es ++ recordsAt time fs
 unfolding recordsOf
-records-append slot [] fs = refl
-records-append slot (e ∷ es) fs = ap (λ (v : List (List ℕ)). recordOf (line slot e) ∷ v) (records-append slot es fs)
+records-append time [] fs = refl
+records-append time (e ∷ es) fs = ap (λ (v : List (List ℕ)). recordOf (line time e) ∷ v) (records-append time es fs)
 
 -- one event alone
-pub one-noted : (d : Ring) (slot : ℕ) (e : Event) → written d (tagOf (e .word)) slot (e .station) (e .values) ≡ notedAll d (recordsOf slot (e ∷ []))
+pub one-noted : (d : Ring) (time : Time) (e : Event) → written d (tagOf (e .word)) (time .slot) (e .station) (othersOf (line time e)) ≡ notedAll d (recordsAt time (e ∷ []))
 unfolding recordsOf notedAll
-one-noted d slot e = written-noted d slot e
+one-noted d time e = written-noted d time e
 
--- with no other values
-pub plain-noted : (d : Ring) (slot a : ℕ) (w : Word) → begun d (tagOf w) 0 slot a ≡ notedAll d (recordsOf slot (event a w [] ∷ []))
+-- with no other values: owns, and taken
+pub owns-noted : (d : Ring) (time : Time) (a : ℕ) → begun d (tagOf owns) 0 (time .slot) a ≡ notedAll d (recordsAt time (event a owns [] ∷ []))
 unfolding pushed written
-plain-noted d slot a w = one-noted d slot (event a w [])
+owns-noted d time a = one-noted d time (event a owns [])
+
+pub taken-noted : (d : Ring) (time : Time) (a : ℕ) → begun d (tagOf taken) 0 (time .slot) a ≡ notedAll d (recordsAt time (event a taken [] ∷ []))
+unfolding pushed written
+taken-noted d time a = one-noted d time (event a taken [])
 
 -- QQ and ZZ that a free line lets go are not noted
-pub free-noted : (d : Ring) (slot a : ℕ) (t : Telegram) → begun d (tagOf free) 0 slot a ≡ notedAll d (recordsOf slot (freeEvent a t ∷ []))
-unfolding pushed written
-free-noted d slot a t = one-noted d slot (freeEvent a t)
+pub free-noted : (d : Ring) (time : Time) (a : ℕ) (t : Telegram)
+    → written d (tagOf free) (time .slot) a (fourBytes (time .elapsed)) ≡ notedAll d (recordsAt time (freeEvent a t ∷ []))
+free-noted d time a t = one-noted d time (freeEvent a t)
 
 -- two events
-pub two-noted : (d : Ring) (slot a n : ℕ) (t : Telegram) {p q : Ring} → p ≡ written d (tagOf failed) slot a (n ∷ []) → q ≡ begun p (tagOf free) 0 slot a
-    → q ≡ notedAll d (recordsOf slot (event a failed (n ∷ []) ∷ freeEvent a t ∷ []))
-two-noted d slot a n t {p} {q} e f =
-    both-noted d (recordsOf slot (event a failed (n ∷ []) ∷ [])) (recordsOf slot (freeEvent a t ∷ [])) (e ∙ one-noted d slot (event a failed (n ∷ []))) (f ∙ free-noted p slot a t)
-    ∙ ap (λ (v : List (List ℕ)). notedAll d v) (sym (records-append slot (event a failed (n ∷ []) ∷ []) (freeEvent a t ∷ [])))
+pub two-noted : (d : Ring) (time : Time) (a n : ℕ) (t : Telegram) {p q : Ring} → p ≡ written d (tagOf failed) (time .slot) a (n ∷ [])
+    → q ≡ written p (tagOf free) (time .slot) a (fourBytes (time .elapsed))
+    → q ≡ notedAll d (recordsAt time (event a failed (n ∷ []) ∷ freeEvent a t ∷ []))
+two-noted d time a n t {p} {q} e f =
+    both-noted d (recordsAt time (event a failed (n ∷ []) ∷ [])) (recordsAt time (freeEvent a t ∷ [])) (e ∙ one-noted d time (event a failed (n ∷ []))) (f ∙ free-noted p time a t)
+    ∙ ap (λ (v : List (List ℕ)). notedAll d v) (sym (records-append time (event a failed (n ∷ []) ∷ []) (freeEvent a t ∷ [])))
 
 -- one station of the first n
-pub pass-next : (slot : ℕ) (last : Bool) (l : List Turn) (n i : ℕ) (d : Turn) → n ≤ length l → i < n
-    → recordsOf slot (linesOf last (drop i (take n l))) ≡ passRecords slot last (getD l i d) ++ recordsOf slot (linesOf last (drop (i + 1) (take n l)))
+pub pass-next : (time : Time) (last : Bool) (l : List Turn) (n i : ℕ) (d : Turn) → n ≤ length l → i < n
+    → recordsAt time (linesOf last (drop i (take n l))) ≡ passRecords time last (getD l i d) ++ recordsAt time (linesOf last (drop (i + 1) (take n l)))
 unfolding passRecords
-pass-next slot last l n i d f h =
-    ap (λ (v : List Turn). recordsOf slot (linesOf last v)) (left-of-first l n i d f h)
-    ∙ records-append slot (those last (tells (getD l i d))) (linesOf last (drop (i + 1) (take n l)))
+pass-next time last l n i d f h =
+    ap (λ (v : List Turn). recordsAt time (linesOf last v)) (left-of-first l n i d f h)
+    ∙ records-append time (those last (tells (getD l i d))) (linesOf last (drop (i + 1) (take n l)))
 
 -- ---- in the loops over the stations
 
-pub pass-on : (slot : ℕ) (last : Bool) (l : List Turn) (n i : ℕ) (d : Turn) (p : Ring) {q r : Ring} → n ≤ length l → i < n → q ≡ notedAll p (passRecords slot last (getD l i d))
-    → notedAll p (recordsOf slot (linesOf last (drop i (take n l)))) ≡ r → notedAll q (recordsOf slot (linesOf last (drop (i + 1) (take n l)))) ≡ r
-pass-on slot last l n i d p f h e w =
-    piece-noted p (passRecords slot last (getD l i d)) (recordsOf slot (linesOf last (drop (i + 1) (take n l)))) (recordsOf slot (linesOf last (drop i (take n l)))) e
-    (pass-next slot last l n i d f h)
+pub pass-on : (time : Time) (last : Bool) (l : List Turn) (n i : ℕ) (d : Turn) (p : Ring) {q r : Ring} → n ≤ length l → i < n → q ≡ notedAll p (passRecords time last (getD l i d))
+    → notedAll p (recordsAt time (linesOf last (drop i (take n l)))) ≡ r → notedAll q (recordsAt time (linesOf last (drop (i + 1) (take n l)))) ≡ r
+pass-on time last l n i d p f h e w =
+    piece-noted p (passRecords time last (getD l i d)) (recordsAt time (linesOf last (drop (i + 1) (take n l)))) (recordsAt time (linesOf last (drop i (take n l)))) e
+    (pass-next time last l n i d f h)
     ∙ w
 
-pub pass-end : (slot : ℕ) (last : Bool) (l : List Turn) (n i : ℕ) {p r : Ring} → n ≤ i
-    → notedAll p (recordsOf slot (linesOf last (drop i (take n l)))) ≡ r → p ≡ r
+pub pass-end : (time : Time) (last : Bool) (l : List Turn) (n i : ℕ) {p r : Ring} → n ≤ i
+    → notedAll p (recordsAt time (linesOf last (drop i (take n l)))) ≡ r → p ≡ r
 unfolding recordsOf
-pass-end slot last l n i {p} h w =
+pass-end time last l n i {p} h w =
     let e : length (take n l) ≤ i = simp length-take (omega arith) in
-    finished-noted p (recordsOf slot (linesOf last (drop i (take n l)))) (ap (λ (v : List Turn). recordsOf slot (linesOf last v)) (drop-of-length-le (take n l) e)) w
+    finished-noted p (recordsAt time (linesOf last (drop i (take n l)))) (ap (λ (v : List Turn). recordsAt time (linesOf last v)) (drop-of-length-le (take n l) e)) w
 
 -- both passes are the slot's records
-pub slot-noted : (b : Bus) (n : ℕ) (d : Ring) {p q : Ring} → n ≡ attachedTo b → p ≡ notedAll d (recordsOf (b .slot) (linesOf false (take n (b .turns))))
-    → q ≡ notedAll p (recordsOf (b .slot) (linesOf true (take n (b .turns)))) → q ≡ notedAll d (slotRecords b)
-unfolding slotRecords events
-slot-noted b n d h e f =
-    both-noted d _ _ e f ∙ ap (λ (v : List (List ℕ)). notedAll d v) (sym (records-append (b .slot) (linesOf false (take n (b .turns))) (linesOf true (take n (b .turns)))))
-    ∙ ap (λ (k : ℕ). notedAll d (recordsOf (b .slot) (linesOf false (take k (b .turns)) ++ linesOf true (take k (b .turns))))) h
+pub slot-noted : (b : Bus) (time : Time) (n : ℕ) (d : Ring) {p q : Ring} → time ≡ timeOf b → n ≡ attachedTo b
+    → p ≡ notedAll d (recordsAt time (linesOf false (take n (b .turns)))) → q ≡ notedAll p (recordsAt time (linesOf true (take n (b .turns))))
+    → q ≡ notedAll d (slotRecords b)
+unfolding slotRecords tellings events
+slot-noted b time n d t h e f =
+    both-noted d _ _ e f ∙ ap (λ (v : List (List ℕ)). notedAll d v) (sym (records-append time (linesOf false (take n (b .turns))) (linesOf true (take n (b .turns)))))
+    ∙ ap (λ (k : ℕ). notedAll d (recordsAt time (linesOf false (take k (b .turns)) ++ linesOf true (take k (b .turns))))) h
+    ∙ ap (λ (w : Time). notedAll d (recordsAt w (linesOf false (attachedTurns b) ++ linesOf true (attachedTurns b)))) t
 
 -- ---- with a load
 

@@ -4,7 +4,8 @@ use mathlib.Core.List.{List, [], _∷_}
 use Prim.Native.Nat.{ℕ, _-_}
 use lib.Dec.{leb}
 use lib.ListN.{length}
-use Rattle.log.specs.Record.{Line, recordOf}
+use Rattle.bus.specs.Events.{Line}
+use Rattle.log.specs.Record.{recordOf}
 
 unfoldable pub fittingRun : ℕ → List Line → List Line
 fittingRun n [] = []

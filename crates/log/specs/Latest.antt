@@ -1,12 +1,12 @@
 -- The longest run of latest records that fits, over the list of all records; nothing here knows of a ring (02, E1). Assumes nothing.
 use mathlib.Core.Bool.{cond}
-use mathlib.Core.List.{List, [], _∷_, _++_, map}
+use mathlib.Core.List.{List, [], _∷_, _++_}
 use Prim.Native.Nat.{ℕ}
 use lib.Dec.{leb}
 use lib.ListN.{length}
-use Rattle.bus.specs.Events.{events}
+use Rattle.bus.specs.Events.{Line, events}
 use Rattle.bus.specs.declared.bus.Bus.{Bus}
-use Rattle.log.specs.Record.{Line, line, recordOf}
+use Rattle.log.specs.Record.{recordOf}
 
 -- records one behind the other
 unfoldable pub joined : List Line → List ℕ
@@ -20,11 +20,7 @@ longestRun room (l ∷ ls) =
     let later = longestRun room ls in
     cond (leb (length (joined (l ∷ ls))) room) (l ∷ ls) later
 
--- the lines of a slot
-abbrev pub linesOf : Bus → List Line
-linesOf b = map (line (b .slot)) (events b)
-
 -- the lines of some slots
 unfoldable pub allLines : List Bus → List Line
 allLines [] = []
-allLines (b ∷ bs) = linesOf b ++ allLines bs
+allLines (b ∷ bs) = events b ++ allLines bs

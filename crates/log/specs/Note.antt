@@ -1,17 +1,18 @@
 -- What a slot told, noted: one record for each event, in the order of `events` (02, E1). Assumes nothing.
 use mathlib.Core.Bool.{Bool, cond}
-use mathlib.Core.List.{List, [], _∷_}
+use mathlib.Core.List.{List, [], _∷_, map}
 use Prim.Native.Nat.{ℕ, _+_}
 use lib.ListN.{length}
 use Rattle.station.specs.Events.{Event, tells}
 use Rattle.station.specs.declared.station.Turn.{Turn}
-use Rattle.bus.specs.Events.{those, events}
+use Rattle.bus.specs.Events.{those, Line, line, events}
 use Rattle.bus.specs.declared.bus.Bus.{Bus}
+use Rattle.bus.specs.declared.time.Time.{Time}
 use Rattle.log.specs.declared.log.Said.{Said}
 use Rattle.log.specs.declared.log.Said.the-variants.{Done, OtherLength}
 use Rattle.log.specs.declared.log.Kept.{Kept}
 use Rattle.log.specs.Log.{isOf}
-use Rattle.log.specs.Record.{line, recordOf, headOf}
+use Rattle.log.specs.Record.{recordOf, headOf}
 use Rattle.log.specs.Ring.{Ring, ring, roomFor, pushed}
 
 -- a record is noted: the oldest go until it fits, and it goes behind the newest
@@ -23,14 +24,14 @@ unfoldable pub notedAll : Ring → List (List ℕ) → Ring
 notedAll d [] = d
 notedAll d (r ∷ rs) = notedAll (noted d r) rs
 
--- the records of some events of a slot
-unfoldable pub recordsOf : ℕ → List Event → List (List ℕ)
-recordsOf slot [] = []
-recordsOf slot (e ∷ es) = recordOf (line slot e) ∷ recordsOf slot es
+-- the records of some lines
+unfoldable pub recordsOf : List Line → List (List ℕ)
+recordsOf [] = []
+recordsOf (l ∷ ls) = recordOf l ∷ recordsOf ls
 
 -- the records of a slot, in the order of its events
 unfoldable pub slotRecords : Bus → List (List ℕ)
-slotRecords b = recordsOf (b .slot) (events b)
+slotRecords b = recordsOf (events b)
 
 -- a log, its buffer, and what a call says
 pub record Keeping : Type 0 where
@@ -57,6 +58,10 @@ begun d tag more slot station = pushed (ring (d .bytes) (roomFor (8 + more) (d .
 unfoldable pub written : Ring → ℕ → ℕ → ℕ → List ℕ → Ring
 written d tag slot station values = pushed (begun d tag (length values) slot station) values
 
+-- the records of some events of one time
+abbrev pub recordsAt : Time → List Event → List (List ℕ)
+recordsAt time es = recordsOf (map (line time) es)
+
 -- the records of one station in one of the two passes
-unfoldable pub passRecords : ℕ → Bool → Turn → List (List ℕ)
-passRecords slot last t = recordsOf slot (those last (tells t))
+unfoldable pub passRecords : Time → Bool → Turn → List (List ℕ)
+passRecords time last t = recordsAt time (those last (tells t))

@@ -1,8 +1,8 @@
--- A reader of tagged records, from the request's words alone: it uses nothing of what writes them (02, E1). Assumes nothing.
+-- A reader of tagged records, from the request's words alone: it uses nothing of what writes them (02, E1 and E4). Assumes nothing.
 use mathlib.Core.Bool.{cond}
 use mathlib.Core.List.{List, [], _∷_, _++_}
 use mathlib.Core.Option.{Option, none, some}
-use Prim.Native.Nat.{ℕ, zero, suc, _+_, _*_}
+use Prim.Native.Nat.{ℕ, zero, suc, _+_, _-_, _*_}
 use lib.Dec.{eqb}
 use lib.ListN.{length, getD, take, drop}
 use Rattle.station.specs.Events.{Word, owns, taken, failed, free, given, answer}
@@ -13,6 +13,8 @@ pub record Entry : Type 0 where
   pub station : ℕ
   pub word : Word
   pub values : List ℕ
+  -- the elapsed slots, on free lines only
+  pub elapsed : Option ℕ
 
 -- tags: 1 owns, 2 taken, 3 failed, 4 free, 5 given, 6 answer, and no others
 unfoldable pub wordOf : ℕ → Option Word
@@ -24,14 +26,36 @@ wordOf n =
     (cond (eqb n 5) (some given)
     (cond (eqb n 6) (some answer) none)))))
 
--- a value: four bytes of slot number, high first, the station, the rest
+-- the number that four bytes make, high first
+unfoldable pub numberIn : List ℕ → ℕ
+numberIn v = getD v 0 0 * 16777216 + getD v 1 0 * 65536 + getD v 2 0 * 256 + getD v 3 0
+
+-- what stands behind the station: values, and in a free record four bytes of elapsed slots at its end
+unfoldable pub valuesIn : Word → List ℕ → List ℕ
+valuesIn owns vs = vs
+valuesIn taken vs = vs
+valuesIn failed vs = vs
+valuesIn free vs = take (length vs - 4) vs
+valuesIn given vs = vs
+valuesIn answer vs = vs
+
+unfoldable pub elapsedIn : Word → List ℕ → Option ℕ
+elapsedIn owns vs = none
+elapsedIn taken vs = none
+elapsedIn failed vs = none
+elapsedIn free vs = some (numberIn (drop (length vs - 4) vs))
+elapsedIn given vs = none
+elapsedIn answer vs = none
+
+-- a value: four bytes of slot number, the station, the rest
 unfoldable pub entryIn : Word → List ℕ → Entry
 entryIn w v =
     record {
-      slot = getD v 0 0 * 16777216 + getD v 1 0 * 65536 + getD v 2 0 * 256 + getD v 3 0;
+      slot = numberIn v;
       station = getD v 4 0;
       word = w;
-      values = drop 5 v;
+      values = valuesIn w (drop 5 v);
+      elapsed = elapsedIn w (drop 5 v);
     }
 
 -- a record of another tag says nothing

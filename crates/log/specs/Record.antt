@@ -1,18 +1,11 @@
--- One line of the bench as one tagged record (02, E1). Assumes nothing.
+-- One line of the bench as one tagged record (02, E1 and E4). Assumes nothing.
 use mathlib.Core.List.{List, [], _∷_, _++_}
 use Prim.Native.Nat.{ℕ, _+_, _/_, _%_}
 use lib.ListN.{length}
 use Rattle.wire.specs.Form.{bytesOf}
 use Rattle.wire.specs.declared.part.Telegram.{Telegram}
-use Rattle.station.specs.Events.{Word, owns, taken, failed, free, given, answer, Event}
-
--- a line: the slot number and the event
-pub record Line : Type 0 where
-  pub slot : ℕ
-  pub event : Event
-
-abbrev pub line : ℕ → Event → Line
-line n e = record { slot = n; event = e }
+use Rattle.station.specs.Events.{Word, owns, taken, failed, free, given, answer}
+use Rattle.bus.specs.Events.{Line}
 
 -- 1 to 6 in the order in which 01 names the words
 abbrev pub tagOf : Word → ℕ
@@ -23,13 +16,25 @@ tagOf free = 4
 tagOf given = 5
 tagOf answer = 6
 
--- a slot number in four bytes, high first
-unfoldable pub slotBytes : ℕ → List ℕ
-slotBytes n = n / 16777216 % 256 ∷ n / 65536 % 256 ∷ n / 256 % 256 ∷ n % 256 ∷ []
+-- a number of slots in four bytes, high first
+unfoldable pub fourBytes : ℕ → List ℕ
+fourBytes n = n / 16777216 % 256 ∷ n / 65536 % 256 ∷ n / 256 % 256 ∷ n % 256 ∷ []
 
--- slot number, station, and the line's other values, a byte each
+-- the line's other values, a byte each; a free line has the elapsed slots behind them
+abbrev pub othersAs : Word → List ℕ → ℕ → List ℕ
+othersAs owns vs elapsed = vs
+othersAs taken vs elapsed = vs
+othersAs failed vs elapsed = vs
+othersAs free vs elapsed = vs ++ fourBytes elapsed
+othersAs given vs elapsed = vs
+othersAs answer vs elapsed = vs
+
+abbrev pub othersOf : Line → List ℕ
+othersOf l = othersAs (l .event .word) (l .event .values) (l .time .elapsed)
+
+-- slot number, station, and the others
 unfoldable pub valueOf : Line → List ℕ
-valueOf l = slotBytes (l .slot) ++ l .event .station ∷ l .event .values
+valueOf l = fourBytes (l .time .slot) ++ l .event .station ∷ othersOf l
 
 -- tag, length in two bytes high first, value
 unfoldable pub recordOf : Line → List ℕ
@@ -39,7 +44,7 @@ recordOf l = tagOf (l .event .word) ∷ length (valueOf l) / 256 ∷ length (val
 
 -- what stands before the other values, of which there are so many
 unfoldable pub headOf : ℕ → ℕ → ℕ → ℕ → List ℕ
-headOf tag more slot station = tag ∷ (5 + more) / 256 ∷ (5 + more) % 256 ∷ slotBytes slot ++ station ∷ []
+headOf tag more slot station = tag ∷ (5 + more) / 256 ∷ (5 + more) % 256 ∷ fourBytes slot ++ station ∷ []
 
 abbrev pub givenValues : Telegram → List ℕ
 givenValues t = t .qq ∷ t .pb ∷ t .sb ∷ length (bytesOf (t .load)) ∷ bytesOf (t .load)

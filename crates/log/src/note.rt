@@ -11,15 +11,15 @@ pub(crate) fn slot(l: Log, bytes: &mut [u8], b: Bus) -> Log
     ensures { λ r. ⌜ ring (now (bytes .exit)) r ≡ notedAll (ring (now (bytes .entry)) l) (slotRecords b) ⌝ }
 {
     let n = b.attached();
-    let slot = b.slot;
+    let time = b.time();
     let mut to = l;
     for i in 0..n {
         let t = b.turns[i];
-        to = record::first_of(to, bytes, slot, t);
+        to = record::first_of(to, bytes, time, t);
     }
     for j in 0..n {
         let t = b.turns[j];
-        to = record::last_of(to, bytes, slot, t);
+        to = record::last_of(to, bytes, time, t);
     }
     to
 }

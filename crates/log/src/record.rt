@@ -4,26 +4,27 @@ ghost use mathlib.Core.Bool.{true, false};
 ghost use mathlib.Core.List.{[], _∷_};
 ghost use Prim.Native.Nat.{_+_};
 ghost use Rattle.wire.specs.Form.{bytesOf, countOf};
-ghost use Rattle.station.specs.Events.{failed, given, answer, numberOf};
-ghost use Rattle.log.specs.Record.{tagOf, slotBytes, givenValues, answerValues};
+ghost use Rattle.station.specs.Events.{failed, free, given, answer, numberOf};
+ghost use Rattle.log.specs.Record.{tagOf, fourBytes, givenValues, answerValues};
 ghost use Rattle.log.specs.Ring.{ring, pushed};
 ghost use Rattle.log.specs.Note.{begun, written, notedAll, passRecords};
 use crate::log::Log;
 use crate::ring;
+use bus::time::Time;
 use station::phase::Failure;
 use station::phase::Told;
 use station::station::Turn;
 use wire::part::Load;
 use wire::part::Telegram;
 
-// A slot number in four bytes, high first.
-fn slot_number(l: Log, bytes: &mut [u8], slot: u32) -> Log
-    ensures { λ r. ⌜ ring (now (bytes .exit)) r ≡ pushed (ring (now (bytes .entry)) l) (slotBytes slot) ⌝ }
+// A number of slots in four bytes, high first.
+fn four_bytes(l: Log, bytes: &mut [u8], n: u32) -> Log
+    ensures { λ r. ⌜ ring (now (bytes .exit)) r ≡ pushed (ring (now (bytes .entry)) l) (fourBytes n) ⌝ }
 {
-    let a = ring::put(l, bytes, (slot / 16777216 % 256) as u8);
-    let b = ring::put(a, bytes, (slot / 65536 % 256) as u8);
-    let c = ring::put(b, bytes, (slot / 256 % 256) as u8);
-    ring::put(c, bytes, (slot % 256) as u8)
+    let a = ring::put(l, bytes, (n / 16777216 % 256) as u8);
+    let b = ring::put(a, bytes, (n / 65536 % 256) as u8);
+    let c = ring::put(b, bytes, (n / 256 % 256) as u8);
+    ring::put(c, bytes, (n % 256) as u8)
 }
 
 // Room for a record with `more` values behind the station; its tag, its length, slot number and station.
@@ -35,7 +36,7 @@ fn begin(l: Log, bytes: &mut [u8], tag: u8, more: u8, slot: u32, station: u8) ->
     let a = ring::put(roomy, bytes, tag);
     let b = ring::put(a, bytes, (n / 256) as u8);
     let c = ring::put(b, bytes, (n % 256) as u8);
-    let d = slot_number(c, bytes, slot);
+    let d = four_bytes(c, bytes, slot);
     ring::put(d, bytes, station)
 }
 
@@ -44,6 +45,14 @@ fn failed(l: Log, bytes: &mut [u8], slot: u32, station: u8, f: Failure) -> Log
 {
     let a = begin(l, bytes, 3, 1, slot, station);
     ring::put(a, bytes, f.number())
+}
+
+// The elapsed slots.
+fn free(l: Log, bytes: &mut [u8], time: Time, station: u8) -> Log
+    ensures { λ r. ⌜ ring (now (bytes .exit)) r ≡ written (ring (now (bytes .entry)) l) (tagOf free) (time .slot) station (fourBytes (time .elapsed)) ⌝ }
+{
+    let a = begin(l, bytes, 4, 4, time.slot, station);
+    four_bytes(a, bytes, time.elapsed)
 }
 
 // NN and the data.
@@ -87,9 +96,10 @@ fn answer(l: Log, bytes: &mut [u8], slot: u32, station: u8, t: Telegram) -> Log
 }
 
 // owns, taken, failed and free of one station.
-pub(crate) fn first_of(l: Log, bytes: &mut [u8], slot: u32, t: Turn) -> Log
-    ensures { λ r. ⌜ ring (now (bytes .exit)) r ≡ notedAll (ring (now (bytes .entry)) l) (passRecords slot false t) ⌝ }
+pub(crate) fn first_of(l: Log, bytes: &mut [u8], time: Time, t: Turn) -> Log
+    ensures { λ r. ⌜ ring (now (bytes .exit)) r ≡ notedAll (ring (now (bytes .entry)) l) (passRecords time false t) ⌝ }
 {
+    let slot = time.slot;
     let a = t.station.address;
     let told = t.told;
     match told {
@@ -97,10 +107,10 @@ pub(crate) fn first_of(l: Log, bytes: &mut [u8], slot: u32, t: Turn) -> Log
         Told::Owns => begin(l, bytes, 1, 0, slot, a),
         Told::Taken => begin(l, bytes, 2, 0, slot, a),
         Told::Failed(f) => failed(l, bytes, slot, a, f),
-        Told::Free => begin(l, bytes, 4, 0, slot, a),
+        Told::Free => free(l, bytes, time, a),
         Told::FailedFree(f) => {
             let to = failed(l, bytes, slot, a, f);
-            begin(to, bytes, 4, 0, slot, a)
+            free(to, bytes, time, a)
         }
         Told::Given => l,
         Told::Answered => l,
@@ -108,9 +118,10 @@ pub(crate) fn first_of(l: Log, bytes: &mut [u8], slot: u32, t: Turn) -> Log
 }
 
 // given and answer of one station.
-pub(crate) fn last_of(l: Log, bytes: &mut [u8], slot: u32, t: Turn) -> Log
-    ensures { λ r. ⌜ ring (now (bytes .exit)) r ≡ notedAll (ring (now (bytes .entry)) l) (passRecords slot true t) ⌝ }
+pub(crate) fn last_of(l: Log, bytes: &mut [u8], time: Time, t: Turn) -> Log
+    ensures { λ r. ⌜ ring (now (bytes .exit)) r ≡ notedAll (ring (now (bytes .entry)) l) (passRecords time true t) ⌝ }
 {
+    let slot = time.slot;
     let s = t.station;
     let a = s.address;
     let part = s.part;

@@ -30,8 +30,8 @@ cast-put-2 c = search needs
 put-requires-3 : tie.Need-put-requires-3
 put-requires-3 c κs = search needs
 
-slot-number-requires : tie.Need-slot-number-requires
-slot-number-requires c κs = search needs
+four-bytes-requires : tie.Need-four-bytes-requires
+four-bytes-requires c κs = search needs
 
 put-requires-4 : tie.Need-put-requires-4
 put-requires-4 c κs = search needs
@@ -43,7 +43,7 @@ returns : tie.Need-returns
 unfolding begun headOf
 returns c =
     let head = both _ _ _ (both _ _ _ (c .before .before .before .before .before .before .before .before .before .before .before .before .before .before .before .before .before .before .put .ensures) (c .before .before .before .before .before .before .before .before .before .before .before .before .before .before .put2 .ensures)) (c .before .before .before .before .before .before .before .before .before .before .put3 .ensures) in
-    rw (← c .before .before .before .before .before .before .before .before .before .before .before .before .before .before .before .before .before .before .before .before .room-for .ensures) (both _ _ _ (both _ _ _ head (c .before .before .before .before .before .before .slot-number .ensures)) (c .before .before .put4 .ensures))
+    rw (← c .before .before .before .before .before .before .before .before .before .before .before .before .before .before .before .before .before .before .before .before .room-for .ensures) (both _ _ _ (both _ _ _ head (c .before .before .before .before .before .before .four-bytes .ensures)) (c .before .before .put4 .ensures))
 
 pub begin-spec : {M : Type 1} → statement M
 begin-spec =
@@ -57,7 +57,7 @@ begin-spec =
     put-requires-2
     cast-put-2
     put-requires-3
-    slot-number-requires
+    four-bytes-requires
     put-requires-4
     same-length
     returns)

@@ -1,9 +1,9 @@
 -- `log::record::first_of` meets its contract. Assumes nothing.
 use mathlib.Core.Path.{_∙_}
 use mathlib.Core.List.{[], _∷_}
-use Rattle.station.specs.Events.{owns, taken, failed, event, tells}
+use Rattle.station.specs.Events.{failed, event, tells}
 use Rattle.log.specs.Note.{recordsOf, passRecords}
-use Rattle.log.proofs.Records.{one-noted, plain-noted, free-noted, two-noted}
+use Rattle.log.proofs.Records.{one-noted, owns-noted, taken-noted, free-noted, two-noted}
 use Rattle.log.proofs.Written.{none-noted}
 use borrow.Author.Needs.{needs}
 use Rattle.log.proofs.record.first_of.Statement.{statement}
@@ -33,8 +33,8 @@ failed-requires c κs = search needs
 enum-told-4 : tie.Need-enum-told-4
 enum-told-4 c = search needs
 
-begin-requires-3 : tie.Need-begin-requires-3
-begin-requires-3 c κs = search needs
+free-requires : tie.Need-free-requires
+free-requires c κs = search needs
 
 enum-known-told-2 : tie.Need-enum-known-told-2
 enum-known-told-2 c = search needs
@@ -42,8 +42,8 @@ enum-known-told-2 c = search needs
 failed-requires-2 : tie.Need-failed-requires-2
 failed-requires-2 c κs = search needs
 
-begin-requires-4 : tie.Need-begin-requires-4
-begin-requires-4 c κs = search needs
+free-requires-2 : tie.Need-free-requires-2
+free-requires-2 c κs = search needs
 
 enum-told-5 : tie.Need-enum-told-5
 enum-told-5 c = search needs
@@ -60,14 +60,14 @@ same-length c = search needs
 
 returns-2 : tie.Need-returns-2
 unfolding passRecords tells
-returns-2 c = rw (c .before .before .before .before .enum-told2 .given .1) (c .before .before .begin .ensures ∙ plain-noted _ _ _ owns)
+returns-2 c = rw (c .before .before .before .before .enum-told2 .given .1) (c .before .before .begin .ensures ∙ owns-noted _ _ _)
 
 same-length-2 : tie.Need-same-length-2
 same-length-2 c = search needs
 
 returns-3 : tie.Need-returns-3
 unfolding passRecords tells
-returns-3 c = rw (c .before .before .before .before .enum-told3 .given .1) (c .before .before .begin2 .ensures ∙ plain-noted _ _ _ taken)
+returns-3 c = rw (c .before .before .before .before .enum-told3 .given .1) (c .before .before .begin2 .ensures ∙ taken-noted _ _ _)
 
 same-length-3 : tie.Need-same-length-3
 same-length-3 c = search needs
@@ -81,14 +81,14 @@ same-length-4 c = search needs
 
 returns-5 : tie.Need-returns-5
 unfolding passRecords tells
-returns-5 c = rw (c .before .before .before .before .enum-told4 .given .1) (c .before .before .begin3 .ensures ∙ free-noted _ _ _ (c .before .before .before .before .before .before .before .args .t .station .part))
+returns-5 c = rw (c .before .before .before .before .enum-told4 .given .1) (c .before .before .free .ensures ∙ free-noted _ _ _ (c .before .before .before .before .before .before .before .args .t .station .part))
 
 same-length-5 : tie.Need-same-length-5
 same-length-5 c = search needs
 
 returns-6 : tie.Need-returns-6
 unfolding passRecords tells
-returns-6 c = rw (c .before .before .before .before .before .before .before .before .before .told2 .given .1) (two-noted _ _ _ _ (c .before .before .before .before .before .before .before .before .before .before .before .before .args .t .station .part) (c .before .before .before .before .before .before .failed2 .ensures) (c .before .before .begin4 .ensures))
+returns-6 c = rw (c .before .before .before .before .before .before .before .before .before .told2 .given .1) (two-noted _ _ _ _ (c .before .before .before .before .before .before .before .before .before .before .before .before .args .t .station .part) (c .before .before .before .before .before .before .failed2 .ensures) (c .before .before .free2 .ensures))
 
 returns-7 : tie.Need-returns-7
 unfolding passRecords tells recordsOf
@@ -110,10 +110,10 @@ first-of-spec =
     enum-known-told
     failed-requires
     enum-told-4
-    begin-requires-3
+    free-requires
     enum-known-told-2
     failed-requires-2
-    begin-requires-4
+    free-requires-2
     enum-told-5
     enum-told-6
     returns

@@ -1,9 +1,9 @@
--- `log::record::slot_number` meets its contract. Assumes nothing.
-use Rattle.log.specs.Record.{slotBytes}
+-- `log::record::four_bytes` meets its contract. Assumes nothing.
+use Rattle.log.specs.Record.{fourBytes}
 use Rattle.log.proofs.Written.{both}
 use borrow.Author.Needs.{needs}
-use Rattle.log.proofs.record.slot_number.Statement.{statement}
-use Rattle.log.proofs.record.slot_number.Tie as tie
+use Rattle.log.proofs.record.four_bytes.Statement.{statement}
+use Rattle.log.proofs.record.four_bytes.Tie as tie
 
 cast-put : tie.Need-cast-put
 cast-put c = search needs
@@ -33,13 +33,13 @@ same-length : tie.Need-same-length
 same-length c = search needs
 
 returns : tie.Need-returns
-unfolding slotBytes
+unfolding fourBytes
 returns c =
     let d = both _ _ _ (c .before .before .before .before .before .before .before .before .before .before .before .before .before .before .put .ensures) (c .before .before .before .before .before .before .before .before .before .before .put2 .ensures) in
     both _ _ _ (both _ _ _ d (c .before .before .before .before .before .before .put3 .ensures)) (c .before .before .put4 .ensures)
 
-pub slot-number-spec : {M : Type 1} → statement M
-slot-number-spec =
+pub four-bytes-spec : {M : Type 1} → statement M
+four-bytes-spec =
     tie.close
     (tie.spec
     cast-put
