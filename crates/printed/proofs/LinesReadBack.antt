@@ -17,15 +17,18 @@ use Rattle.station.specs.declared.phase.Failure.the-variants.{Disturbed, WrongA
 use Rattle.station.specs.declared.phase.Told.{Told}
 use Rattle.station.specs.declared.phase.Told.the-variants.{Silence, Owns, Taken, Failed, Free, FailedFree, Given, Answered}
 use Rattle.station.specs.declared.station.Turn.{Turn}
-use Rattle.bus.specs.Events.{those, linesOf, events}
+use Rattle.bus.specs.Events.{those, linesOf, tellings, line, events}
+use Rattle.bus.specs.Time.{timeOf}
 use Rattle.bus.specs.declared.bus.Bus.{Bus}
+use Rattle.bus.specs.declared.time.Time.{Time}
+use Rattle.bus.proofs.Elapsed.{elapsed-32}
 use Rattle.promises.specs.Calls.{AllBytes}
 use Rattle.promises.proofs.Shared.Arrays.{every-append}
-use Rattle.scenario.specs.Lines.{wordText, valuesText, hexesText, beginText, lineText, textOf, slotText}
+use Rattle.scenario.specs.Lines.{wordText, valuesText, hexesText, beginText, lineText, textOf, slotText, textAt}
 use Rattle.scenario.specs.Pen.{hexText, decimalText}
 use Rattle.scenario.proofs.ReadsBack.{decimal-reads-back}
 use Rattle.printed.specs.ReadLine.{Line, told, cut, letters, named, saysOf, lineWith, readLine, readText}
-use Rattle.printed.specs.ToldLines.{lineOf, saysBy, ByteTurn, ByteBus, Values, ByteEvent}
+use Rattle.printed.specs.ToldLines.{printedValues, lineOf, saysBy, ByteTurn, ByteBus, Values, ByteEvent}
 use Rattle.printed.proofs.Cuts.{Above, cut-at, cut-last, above, ended, nothing-read, decimal-above, number-no-word, hexWord, hex-above, cut-bytes, bytes-above, byte-back, bytes-back}
 
 -- ---- one line
@@ -54,15 +57,16 @@ module _ (slot station : ℕ) (small : slot < 2 ^ 32) (byte : station < 256) whe
       (begin-reads w (decimalText n ∷ []))
 
   -- with its values, by their names
-  event-reads : (w : Word) (vs : List ℕ) → Values w vs → readLine (beginText slot station ++ wordText w ++ valuesText w vs) ≡ told slot station (named w vs)
-  event-reads word.owns vs v = bytes-read vs (above 32 (letters "owns") refl) ∙ rw (bytes-back vs v)
-  event-reads word.taken vs v = bytes-read vs (above 32 (letters "taken") refl) ∙ rw (bytes-back vs v)
-  event-reads word.failed [] v = absurd v
-  event-reads word.failed (n ∷ []) v = number-read n (above 32 (letters "failed") refl) ∙ rw (decimal-reads-back n v)
-  event-reads word.failed (n ∷ m ∷ ms) v = absurd v
-  event-reads word.free vs v = bytes-read vs (above 32 (letters "free") refl) ∙ rw (bytes-back vs v)
-  event-reads word.given vs v = bytes-read vs (above 32 (letters "given") refl) ∙ rw (bytes-back vs v)
-  event-reads word.answer vs v = bytes-read vs (above 32 (letters "answer") refl) ∙ rw (bytes-back vs v)
+  event-reads : (w : Word) (vs : List ℕ) (n : ℕ) → Values w vs → n < 2 ^ 32
+      → readLine (beginText slot station ++ wordText w ++ valuesText w vs n) ≡ told slot station (named w (printedValues w vs n))
+  event-reads word.owns vs elapsed v k = bytes-read vs (above 32 (letters "owns") refl) ∙ rw (bytes-back vs v)
+  event-reads word.taken vs elapsed v k = bytes-read vs (above 32 (letters "taken") refl) ∙ rw (bytes-back vs v)
+  event-reads word.failed [] elapsed v k = absurd v
+  event-reads word.failed (n ∷ []) elapsed v k = number-read n (above 32 (letters "failed") refl) ∙ rw (decimal-reads-back n v)
+  event-reads word.failed (n ∷ m ∷ ms) elapsed v k = absurd v
+  event-reads word.free vs elapsed v k = number-read elapsed (above 32 (letters "free") refl) ∙ rw (decimal-reads-back elapsed k)
+  event-reads word.given vs elapsed v k = bytes-read vs (above 32 (letters "given") refl) ∙ rw (bytes-back vs v)
+  event-reads word.answer vs elapsed v k = bytes-read vs (above 32 (letters "answer") refl) ∙ rw (bytes-back vs v)
 
 -- ---- lines one after the other
 
@@ -80,38 +84,42 @@ word-above word.free = above 10 (wordText word.free) refl
 word-above word.given = above 10 (wordText word.given) refl
 word-above word.answer = above 10 (wordText word.answer) refl
 
-values-above : (w : Word) (vs : List ℕ) → Values w vs → Above 10 (valuesText w vs)
-values-above word.owns vs v = bytes-above vs
-values-above word.taken vs v = bytes-above vs
-values-above word.failed [] v = absurd v
-values-above word.failed (n ∷ []) v = decimal-above n 10 (omega arith)
-values-above word.failed (n ∷ m ∷ ms) v = absurd v
-values-above word.free vs v = bytes-above vs
-values-above word.given vs v = bytes-above vs
-values-above word.answer vs v = bytes-above vs
+values-above : (w : Word) (vs : List ℕ) (n : ℕ) → Values w vs → Above 10 (valuesText w vs n)
+values-above word.owns vs elapsed v = bytes-above vs
+values-above word.taken vs elapsed v = bytes-above vs
+values-above word.failed [] elapsed v = absurd v
+values-above word.failed (n ∷ []) elapsed v = decimal-above n 10 (omega arith)
+values-above word.failed (n ∷ m ∷ ms) elapsed v = absurd v
+values-above word.free vs elapsed v = decimal-above elapsed 10 (omega arith)
+values-above word.given vs elapsed v = bytes-above vs
+values-above word.answer vs elapsed v = bytes-above vs
 
-module _ (slot : ℕ) (small : slot < 2 ^ 32) where
+module _ (time : Time) (small : time .slot < 2 ^ 32) (lasted : time .elapsed < 2 ^ 32) where
   -- the line of an event, whatever stands behind it
-  pub line-reads-back : (e : Event) (rest : List ℕ) → ByteEvent e → readText (lineText slot e ++ rest) ≡ lineOf slot e ∷ readText rest
+  pub line-reads-back : (e : Event) (rest : List ℕ) → ByteEvent e → readText (lineText (line time e) ++ rest) ≡ lineOf (line time e) ∷ readText rest
   unfolding lineText
   line-reads-back e rest h =
-      ended rest (every-append (every-append (begin-above slot (e .station)) (word-above (e .word))) (values-above (e .word) (e .values) (h .values)))
-      ∙ ap (λ (l : Line). l ∷ readText rest) (event-reads slot (e .station) small (h .station-byte) (e .word) (e .values) (h .values))
+      ended rest (every-append (every-append (begin-above (time .slot) (e .station)) (word-above (e .word))) (values-above (e .word) (e .values) (time .elapsed) (h .values)))
+      ∙ ap (λ (l : Line). l ∷ readText rest)
+      (event-reads (time .slot) (e .station) small (h .station-byte) (e .word) (e .values) (time .elapsed) (h .values) lasted)
 
   -- the lines of some events: those events in their order, and nothing is left over
-  pub lines-read-back : {es : List Event} → Every ByteEvent es → readText (textOf slot es) ≡ map (lineOf slot) es
+  pub lines-read-back : {es : List Event} → Every ByteEvent es → readText (textAt time es) ≡ map lineOf (map (line time) es)
   unfolding textOf
   lines-read-back none = nothing-read
-  lines-read-back (next {a = e} {l = es} h hs) = line-reads-back e (textOf slot es) h ∙ ap (λ (ls : List Line). lineOf slot e ∷ ls) (lines-read-back hs)
+  lines-read-back (next {a = e} {l = es} h hs) =
+      line-reads-back e (textAt time es) h ∙ ap (λ (ls : List Line). lineOf (line time e) ∷ ls) (lines-read-back hs)
 
 -- ---- a station, a slot
 
--- what a station is told, with the fields of the part that it speaks of
-pub tells-by-name : (slot : ℕ) (t : Turn) → map (lineOf slot) (tells t) ≡ map (told slot (t .station .address)) (saysBy (t .told) (t .station .part))
+-- what a station is told, with the elapsed slots and the fields of the part that it speaks of
+pub tells-by-name : (time : Time) (t : Turn)
+    → map lineOf (map (line time) (tells t)) ≡ map (told (time .slot) (t .station .address)) (saysBy (t .told) (time .elapsed) (t .station .part))
 unfolding tells
-tells-by-name slot t = by (t .told)
+tells-by-name time t = by (t .told)
   where
-    by : (s : Told) → map (lineOf slot) (eventsAs s (t .station .address) (t .station .part)) ≡ map (told slot (t .station .address)) (saysBy s (t .station .part))
+    by : (s : Told) → map lineOf (map (line time) (eventsAs s (t .station .address) (t .station .part)))
+        ≡ map (told (time .slot) (t .station .address)) (saysBy s (time .elapsed) (t .station .part))
     by Silence = refl
     by Owns = refl
     by Taken = refl
@@ -175,7 +183,8 @@ pass-bytes : (last : Bool) {ts : List Turn} → Every ByteTurn ts → Every Byte
 pass-bytes last none = none
 pass-bytes last (next {a = t} h hs) = every-append (turn-bytes last t h) (pass-bytes last hs)
 
--- the text of a slot: exactly the slot's events, in their order
-pub slot-reads-back : (b : Bus) → ByteBus b → readText (slotText b) ≡ map (lineOf (b .slot)) (events b)
-unfolding slotText events
-slot-reads-back b h = lines-read-back (b .slot) (h .slot) (every-append (pass-bytes false (h .turns)) (pass-bytes true (h .turns)))
+-- the text of a slot: exactly the slot's events, in their order, each with its time
+pub slot-reads-back : (b : Bus) → ByteBus b → readText (slotText b) ≡ map lineOf (events b)
+unfolding slotText tellings events timeOf
+slot-reads-back b h =
+    lines-read-back (timeOf b) (h .slot) (elapsed-32 b) (every-append (pass-bytes false (h .turns)) (pass-bytes true (h .turns)))

@@ -1,4 +1,4 @@
--- How the bench's lines are read (01, "Bench program", Lines): a text is cut at its line feeds, a line at its spaces, and each word is
+-- How the bench's lines are read (01, "Bench program", Lines; 02, E4): a text is cut at its line feeds, a line at its spaces, and each word is
 -- read by what 01 says stands at its place. It takes a text apart and knows nothing of how one is put together. Assumes nothing.
 use mathlib.Core.Bool.{Bool, true, false, cond}
 use mathlib.Core.List.{List, [], _∷_, map}
@@ -14,8 +14,9 @@ use Rattle.scenario.specs.ReadBack.{readDecimal, readByte}
 
 -- what a station is told, the values by their names
 pub data Says : Type 0 where
-  owns taken free : Says
+  owns taken : Says
   failed : (number : ℕ) → Says
+  free : (elapsed : ℕ) → Says
   given : (qq pb sb nn : ℕ) → List ℕ → Says
   answer : (slave nn : ℕ) → List ℕ → Says
   -- no word of 01's, or not with the values that belong to it
@@ -83,27 +84,28 @@ answerWith [] = nothing
 answerWith (slave ∷ []) = nothing
 answerWith (slave ∷ nn ∷ bytes) = answer slave nn bytes
 
-abbrev pub failedWith : List ℕ → Says
-failedWith [] = nothing
-failedWith (n ∷ []) = failed n
-failedWith (n ∷ m ∷ ms) = nothing
+-- one number and no other
+abbrev pub numbered : (ℕ → Says) → List ℕ → Says
+numbered says [] = nothing
+numbered says (n ∷ []) = says n
+numbered says (n ∷ m ∷ ms) = nothing
 
 -- a word with its values, by their places
 abbrev pub named : Word → List ℕ → Says
 named word.owns vs = alone owns vs
 named word.taken vs = alone taken vs
-named word.failed vs = failedWith vs
-named word.free vs = alone free vs
+named word.failed vs = numbered failed vs
+named word.free vs = numbered free vs
 named word.given vs = givenWith vs
 named word.answer vs = answerWith vs
 
--- the number of a failure is decimal, all others are bytes
+-- the number of a failure and the elapsed slots of a free line are decimal, all others are bytes
 abbrev pub saysOf : List ℕ → List (List ℕ) → Says
 saysOf w vs =
     cond (is w "owns") (named word.owns (map byte vs))
     (cond (is w "taken") (named word.taken (map byte vs))
     (cond (is w "failed") (named word.failed (map decimal vs))
-    (cond (is w "free") (named word.free (map byte vs))
+    (cond (is w "free") (named word.free (map decimal vs))
     (cond (is w "given") (named word.given (map byte vs))
     (cond (is w "answer") (named word.answer (map byte vs)) nothing)))))
 

@@ -12,24 +12,34 @@ use Rattle.station.specs.declared.phase.Told.{Told}
 use Rattle.station.specs.declared.phase.Told.the-variants.{Silence, Owns, Taken, Failed, Free, FailedFree, Given, Answered}
 use Rattle.station.specs.declared.station.Turn.{Turn}
 use Rattle.bus.specs.Bus.{attachedTurns}
+use Rattle.bus.specs.Events as bus
 use Rattle.bus.specs.declared.bus.Bus.{Bus}
 use Rattle.promises.specs.Calls.{AllBytes}
 use Rattle.printed.specs.ReadLine.{Says, owns, taken, free, failed, given, answer, Line, told, named}
 
--- the line of an event; QQ and ZZ of a free line are not printed
-abbrev pub lineOf : ℕ → Event → Line
-lineOf slot e = told slot (e .station) (named (e .word) (e .values))
+-- the values that a line has; a free line has the elapsed slots (QQ and ZZ of it are not printed)
+abbrev pub printedValues : Word → List ℕ → ℕ → List ℕ
+printedValues word.owns vs elapsed = vs
+printedValues word.taken vs elapsed = vs
+printedValues word.failed vs elapsed = vs
+printedValues word.free vs elapsed = elapsed ∷ []
+printedValues word.given vs elapsed = vs
+printedValues word.answer vs elapsed = vs
 
--- what a station is told, with the part that it speaks of
-abbrev pub saysBy : Told → Telegram → List Says
-saysBy Silence t = []
-saysBy Owns t = owns ∷ []
-saysBy Taken t = taken ∷ []
-saysBy (Failed f) t = failed (numberOf f) ∷ []
-saysBy Free t = free ∷ []
-saysBy (FailedFree f) t = failed (numberOf f) ∷ free ∷ []
-saysBy Given t = given (t .qq) (t .pb) (t .sb) (length (bytesOf (t .load))) (bytesOf (t .load)) ∷ []
-saysBy Answered t = answer (t .zz) (length (bytesOf (t .load))) (bytesOf (t .load)) ∷ []
+-- the line of an event
+abbrev pub lineOf : bus.Line → Line
+lineOf l = told (l .time .slot) (l .event .station) (named (l .event .word) (printedValues (l .event .word) (l .event .values) (l .time .elapsed)))
+
+-- what a station is told, with the elapsed slots and the part that it speaks of
+abbrev pub saysBy : Told → ℕ → Telegram → List Says
+saysBy Silence elapsed t = []
+saysBy Owns elapsed t = owns ∷ []
+saysBy Taken elapsed t = taken ∷ []
+saysBy (Failed f) elapsed t = failed (numberOf f) ∷ []
+saysBy Free elapsed t = free elapsed ∷ []
+saysBy (FailedFree f) elapsed t = failed (numberOf f) ∷ free elapsed ∷ []
+saysBy Given elapsed t = given (t .qq) (t .pb) (t .sb) (length (bytesOf (t .load))) (bytesOf (t .load)) ∷ []
+saysBy Answered elapsed t = answer (t .zz) (length (bytesOf (t .load))) (bytesOf (t .load)) ∷ []
 
 -- ---- what the types of a bus say: addresses, heads and data are bytes, a part has an array of 16 of them, the slot number has 32 bits
 

@@ -16,7 +16,9 @@ use Rattle.station.specs.declared.phase.Told.{Told}
 use Rattle.station.specs.declared.phase.Told.the-variants.{Silence, Owns, Taken, Failed, Free, FailedFree, Given, Answered}
 use Rattle.station.specs.declared.station.Turn.{Turn}
 use Rattle.bus.specs.Bus.{attachedTo, attachedTurns}
-use Rattle.bus.specs.Events.{those, linesOf, events}
+use Rattle.bus.specs.Events.{those, linesOf, tellings, line, events}
+use Rattle.bus.specs.Time.{timeOf}
+use Rattle.bus.specs.declared.time.Time.{Time}
 use Rattle.bus.specs.Refusal.{refusalNumber}
 use Rattle.bus.specs.declared.bus.Bus.{Bus}
 use Rattle.bus.specs.declared.refusal.Verdict.{Verdict}
@@ -25,7 +27,7 @@ use Rattle.bus.proofs.Loops.{attached-fit}
 use Rattle.walk.specs.declared.form.Form.{Form}
 use Rattle.walk.specs.declared.form.Form.the-variants.{Good, BadField, TooLong}
 use Rattle.scenario.specs.Pen.{Pen, pen, pageRoom, room, pennedOne, penned, hexText, lastDigit, digitsOf, decimalText}
-use Rattle.scenario.specs.Lines.{wordText, valuesText, newline, refusedText, hexesText, beginText, lineText, textOf, slotText, verdictText, formText, endText}
+use Rattle.scenario.specs.Lines.{wordText, valuesText, newline, refusedText, hexesText, beginText, lineText, textOf, textAt, slotText, verdictText, formText, endText}
 use Rattle.scenario.specs.Output.{header}
 use Rattle.scenario.proofs.Texts.{text-append}
 
@@ -81,21 +83,21 @@ unfolding beginText
 begin-most slot station = omega (arith, length-append (decimalText slot) (hexText station), decimal-most slot, hex-length station)
 
 -- slot, station and line feed take at most 14
-line-most : (slot : ℕ) (e : Event) → length (lineText slot e) ≤ 14 + length (wordText (e .word)) + length (valuesText (e .word) (e .values))
+line-most : (time : Time) (e : Event) → length (lineText (line time e)) ≤ 14 + length (wordText (e .word)) + length (valuesText (e .word) (e .values) (time .elapsed))
 unfolding lineText
-line-most slot e =
-    let a = beginText slot (e .station) in
+line-most time e =
+    let a = beginText (time .slot) (e .station) in
     let w = wordText (e .word) in
-    let v = valuesText (e .word) (e .values) in
-    omega (arith, length-append (a ++ w ++ v) newline, length-append (a ++ w) v, length-append a w, begin-most slot (e .station))
+    let v = valuesText (e .word) (e .values) (time .elapsed) in
+    omega (arith, length-append (a ++ w ++ v) newline, length-append (a ++ w) v, length-append a w, begin-most (time .slot) (e .station))
 
-more-most : (slot : ℕ) (e : Event) (es : List Event) → length (textOf slot (e ∷ es)) ≡ length (lineText slot e) + length (textOf slot es)
+more-most : (time : Time) (e : Event) (es : List Event) → length (textAt time (e ∷ es)) ≡ length (lineText (line time e)) + length (textAt time es)
 unfolding textOf
-more-most slot e es = length-append (lineText slot e) (textOf slot es)
+more-most time e es = length-append (lineText (line time e)) (textAt time es)
 
-none-most : (slot : ℕ) → length (textOf slot []) ≡ 0
+none-most : (time : Time) → length (textAt time []) ≡ 0
 unfolding textOf
-none-most slot = refl
+none-most time = refl
 
 -- ---- one station
 
@@ -103,39 +105,39 @@ bytes-most : (t : Telegram) → length (t .load .bytes) ≤ 16 → length (bytes
 bytes-most t h = omega (arith, length-take (t .load .nn) (t .load .bytes))
 
 -- what one station is told in a slot takes at most 80 bytes: `4294967295 10 given` with twenty bytes behind it is the longest
-station-most : (slot : ℕ) (told : Told) (a : ℕ) (t : Telegram) → length (t .load .bytes) ≤ 16
-    → length (textOf slot (those false (eventsAs told a t))) + length (textOf slot (those true (eventsAs told a t))) ≤ 80
-station-most slot Silence a t h = omega (arith, none-most slot)
-station-most slot Owns a t h =
-    let e = event a owns [] in omega (arith, none-most slot, more-most slot e [], line-most slot e, hexes-length [])
-station-most slot Taken a t h =
-    let e = event a taken [] in omega (arith, none-most slot, more-most slot e [], line-most slot e, hexes-length [])
-station-most slot (Failed f) a t h =
+station-most : (time : Time) (told : Told) (a : ℕ) (t : Telegram) → length (t .load .bytes) ≤ 16
+    → length (textAt time (those false (eventsAs told a t))) + length (textAt time (those true (eventsAs told a t))) ≤ 80
+station-most time Silence a t h = omega (arith, none-most time)
+station-most time Owns a t h =
+    let e = event a owns [] in omega (arith, none-most time, more-most time e [], line-most time e, hexes-length [])
+station-most time Taken a t h =
+    let e = event a taken [] in omega (arith, none-most time, more-most time e [], line-most time e, hexes-length [])
+station-most time (Failed f) a t h =
     let e = event a failed (numberOf f ∷ []) in
-    omega (arith, none-most slot, more-most slot e [], line-most slot e, decimal-most (numberOf f))
-station-most slot Free a t h =
-    let e = freeEvent a t in omega (arith, none-most slot, more-most slot e [], line-most slot e, hexes-length [])
-station-most slot (FailedFree f) a t h =
+    omega (arith, none-most time, more-most time e [], line-most time e, decimal-most (numberOf f))
+station-most time Free a t h =
+    let e = freeEvent a t in omega (arith, none-most time, more-most time e [], line-most time e, decimal-most (time .elapsed))
+station-most time (FailedFree f) a t h =
     let e = event a failed (numberOf f ∷ []) in
     let g = freeEvent a t in
     omega (
       arith,
-      none-most slot,
-      more-most slot e (g ∷ []),
-      more-most slot g [],
-      line-most slot e,
-      line-most slot g,
+      none-most time,
+      more-most time e (g ∷ []),
+      more-most time g [],
+      line-most time e,
+      line-most time g,
       decimal-most (numberOf f),
-      hexes-length [],
+      decimal-most (time .elapsed),
     )
-station-most slot Given a t h =
+station-most time Given a t h =
     let vs = t .qq ∷ t .pb ∷ t .sb ∷ length (bytesOf (t .load)) ∷ bytesOf (t .load) in
     let e = event a given vs in
-    omega (arith, none-most slot, more-most slot e [], line-most slot e, hexes-length vs, bytes-most t h)
-station-most slot Answered a t h =
+    omega (arith, none-most time, more-most time e [], line-most time e, hexes-length vs, bytes-most t h)
+station-most time Answered a t h =
     let vs = t .zz ∷ length (bytesOf (t .load)) ∷ bytesOf (t .load) in
     let e = event a answer vs in
-    omega (arith, none-most slot, more-most slot e [], line-most slot e, hexes-length vs, bytes-most t h)
+    omega (arith, none-most time, more-most time e [], line-most time e, hexes-length vs, bytes-most t h)
 
 -- ---- all stations
 
@@ -144,33 +146,33 @@ pub data Sized : List Turn → Type 0 where
   none : Sized []
   one : {t : Turn} {ts : List Turn} → length (t .station .part .load .bytes) ≡ 16 → Sized ts → Sized (t ∷ ts)
 
-both-lengths : (slot : ℕ) (last : Bool) (t : Turn) (ts : List Turn)
-    → length (textOf slot (linesOf last (t ∷ ts))) ≡ length (textOf slot (those last (tells t))) + length (textOf slot (linesOf last ts))
-both-lengths slot last t ts =
-    ap length (text-append slot (those last (tells t)) (linesOf last ts)) ∙ length-append (textOf slot (those last (tells t))) (textOf slot (linesOf last ts))
+both-lengths : (time : Time) (last : Bool) (t : Turn) (ts : List Turn)
+    → length (textAt time (linesOf last (t ∷ ts))) ≡ length (textAt time (those last (tells t))) + length (textAt time (linesOf last ts))
+both-lengths time last t ts =
+    ap length (text-append time (those last (tells t)) (linesOf last ts)) ∙ length-append (textAt time (those last (tells t))) (textAt time (linesOf last ts))
 
-stations-most : (slot : ℕ) {ts : List Turn} → Sized ts
-    → length (textOf slot (linesOf false ts)) + length (textOf slot (linesOf true ts)) ≤ 80 * length ts
+stations-most : (time : Time) {ts : List Turn} → Sized ts
+    → length (textAt time (linesOf false ts)) + length (textAt time (linesOf true ts)) ≤ 80 * length ts
 unfolding tells
-stations-most slot none = omega (arith, none-most slot)
-stations-most slot (one {t} {ts} h r) =
+stations-most time none = omega (arith, none-most time)
+stations-most time (one {t} {ts} h r) =
     omega (
       arith,
-      both-lengths slot false t ts,
-      both-lengths slot true t ts,
-      station-most slot (t .told) (t .station .address) (t .station .part) (omega arith),
-      stations-most slot r,
+      both-lengths time false t ts,
+      both-lengths time true t ts,
+      station-most time (t .told) (t .station .address) (t .station .part) (omega arith),
+      stations-most time r,
     )
 
 pub slot-most : (b : Bus) → Sized (attachedTurns b) → length (slotText b) ≤ pageRoom
-unfolding slotText events
+unfolding slotText tellings events
 slot-most b h =
-    let s = b .slot in
+    let s = timeOf b in
     let ts = attachedTurns b in
     omega (
       arith,
       ap length (text-append s (linesOf false ts) (linesOf true ts)),
-      length-append (textOf s (linesOf false ts)) (textOf s (linesOf true ts)),
+      length-append (textAt s (linesOf false ts)) (textAt s (linesOf true ts)),
       stations-most s h,
       length-take (attachedTo b) (b .turns),
       attached-fit b,

@@ -5,7 +5,7 @@ use mathlib.Core.List.{List, [], _∷_, _++_, append-assoc, append-nil}
 use Prim.Native.Nat.{ℕ, zero, suc}
 use lib.Dec.{ltb}
 use lib.ListN.{length}
-use Rattle.station.specs.Events.{Event}
+use Rattle.bus.specs.Events.{Line}
 use Rattle.bus.specs.Bus.{poweredOn}
 use Rattle.bus.specs.Find.{thereIs}
 use Rattle.bus.specs.Slot.{slotRun}
@@ -36,7 +36,7 @@ texts-append (n ∷ l) m =
 -- a slot that tells nobody anything prints nothing
 pub quiet-text : (b : Bus) → thereIs b WasTold ≡ false → slotText b ≡ []
 unfolding slotText textOf
-quiet-text b e = ap (λ (es : List Event). textOf (b .slot) es) (told-exactly-when b .0 e)
+quiet-text b e = ap (λ (ls : List Line). textOf ls) (told-exactly-when b .0 e)
 
 told-text : (b : Bus) (l : List Now) → momentsText (toldIn b l) ≡ slotText b ++ momentsText l
 unfolding momentsText

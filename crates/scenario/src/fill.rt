@@ -144,16 +144,16 @@ fn fields(p: Place, b: Bus, s: &[u8], out: &mut [u8; ROOM], at: usize) -> Filled
             }
         }
         let n = bus.attached();
-        let slot = bus.slot;
+        let time = bus.time();
         let mut told = false;
         for i in 0..n {
             let t = bus.turns[i];
             told = bus::rest::or_told(told, t);
-            used = lines::first_of(out, used, slot, t);
+            used = lines::first_of(out, used, time, t);
         }
         for j in 0..n {
             let t = bus.turns[j];
-            used = lines::last_of(out, used, slot, t);
+            used = lines::last_of(out, used, time, t);
         }
         place = Place::came(to, left, told);
     }

@@ -1,13 +1,15 @@
 // The lines of a station in a slot, of a refusal, of a scenario's form, and the last line.
 ghost use mathlib.Core.Path.{_≡_};
 ghost use Rattle.scenario.specs.Pen.{pen, penned};
-ghost use Rattle.scenario.specs.Lines.{beginText, plainText, failureText, loadText, givenText, answerText, passText, verdictText, formText, endText};
+ghost use Rattle.scenario.specs.Lines.{wordText, beginText, plainText, countedText, loadText, givenText, answerText, passText, verdictText, formText, endText};
 ghost use mathlib.Core.Bool.{true, false};
+ghost use Rattle.station.specs.Events.{failed, numberOf};
 ghost use Rattle.bus.specs.Refusal.{refusalNumber};
 use crate::pen;
 use crate::pen::ROOM;
 use bus::refusal::Refusal;
 use bus::refusal::Verdict;
+use bus::time::Time;
 use station::phase::Failure;
 use station::phase::Told;
 use station::station::Turn;
@@ -32,13 +34,20 @@ fn plain(page: &mut [u8; ROOM], at: usize, slot: u32, station: u8, word: &[u8]) 
     pen::word(page, end, b"\n")
 }
 
-fn failed(page: &mut [u8; ROOM], at: usize, slot: u32, station: u8, f: Failure) -> usize
-    ensures { λ r. ⌜ pen (now (page .exit)) r ≡ penned (pen (now (page .entry)) at) (failureText slot station f) ⌝ }
+// A line with a word and a decimal number.
+fn counted(page: &mut [u8; ROOM], at: usize, slot: u32, station: u8, word: &[u8], n: u32) -> usize
+    ensures { λ r. ⌜ pen (now (page .exit)) r ≡ penned (pen (now (page .entry)) at) (countedText slot station (now (word .entry)) n) ⌝ }
 {
     let to = begin(page, at, slot, station);
-    let mid = pen::word(page, to, b" failed ");
-    let end = pen::decimal(page, mid, f.number() as u32);
+    let mid = pen::word(page, to, word);
+    let end = pen::decimal(page, mid, n);
     pen::word(page, end, b"\n")
+}
+
+fn failed(page: &mut [u8; ROOM], at: usize, slot: u32, station: u8, f: Failure) -> usize
+    ensures { λ r. ⌜ pen (now (page .exit)) r ≡ penned (pen (now (page .entry)) at) (countedText slot station (wordText failed) (numberOf f)) ⌝ }
+{
+    counted(page, at, slot, station, b" failed ", f.number() as u32)
 }
 
 // NN and the data.
@@ -84,9 +93,10 @@ fn answer(page: &mut [u8; ROOM], at: usize, slot: u32, station: u8, t: Telegram)
 }
 
 // owns, taken, failed and free lines of one station.
-pub fn first_of(page: &mut [u8; ROOM], at: usize, slot: u32, t: Turn) -> usize
-    ensures { λ r. ⌜ pen (now (page .exit)) r ≡ penned (pen (now (page .entry)) at) (passText slot false t) ⌝ }
+pub fn first_of(page: &mut [u8; ROOM], at: usize, time: Time, t: Turn) -> usize
+    ensures { λ r. ⌜ pen (now (page .exit)) r ≡ penned (pen (now (page .entry)) at) (passText time false t) ⌝ }
 {
+    let slot = time.slot;
     let a = t.station.address;
     let told = t.told;
     match told {
@@ -94,10 +104,10 @@ pub fn first_of(page: &mut [u8; ROOM], at: usize, slot: u32, t: Turn) -> usize
         Told::Owns => plain(page, at, slot, a, b" owns"),
         Told::Taken => plain(page, at, slot, a, b" taken"),
         Told::Failed(f) => failed(page, at, slot, a, f),
-        Told::Free => plain(page, at, slot, a, b" free"),
+        Told::Free => counted(page, at, slot, a, b" free ", time.elapsed),
         Told::FailedFree(f) => {
             let to = failed(page, at, slot, a, f);
-            plain(page, to, slot, a, b" free")
+            counted(page, to, slot, a, b" free ", time.elapsed)
         }
         Told::Given => at,
         Told::Answered => at,
@@ -105,9 +115,10 @@ pub fn first_of(page: &mut [u8; ROOM], at: usize, slot: u32, t: Turn) -> usize
 }
 
 // given and answer lines of one station.
-pub fn last_of(page: &mut [u8; ROOM], at: usize, slot: u32, t: Turn) -> usize
-    ensures { λ r. ⌜ pen (now (page .exit)) r ≡ penned (pen (now (page .entry)) at) (passText slot true t) ⌝ }
+pub fn last_of(page: &mut [u8; ROOM], at: usize, time: Time, t: Turn) -> usize
+    ensures { λ r. ⌜ pen (now (page .exit)) r ≡ penned (pen (now (page .entry)) at) (passText time true t) ⌝ }
 {
+    let slot = time.slot;
     let s = t.station;
     let a = s.address;
     let part = s.part;

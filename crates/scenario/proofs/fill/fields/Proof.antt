@@ -13,10 +13,11 @@ use Rattle.laws.specs.First.{firstFrom, isFound}
 use Rattle.laws.proofs.Lists.{length-mapped}
 use Rattle.station.specs.declared.station.Turn.{Turn}
 use Rattle.bus.specs.Bus.{seats, attachedTo}
-use Rattle.bus.specs.Events.{linesOf, events}
+use Rattle.bus.specs.Events.{linesOf, tellings, events}
 use Rattle.bus.specs.Find.{meets, thereIs}
 use Rattle.bus.specs.declared.bus.Answer.{Answer}
 use Rattle.bus.specs.declared.find.Query.the-variants.{WasTold}
+use Rattle.bus.specs.declared.time.Time.{Time}
 use Rattle.bus.proofs.Loops.{attached-fit, found-turn, all-asked}
 use Rattle.walk.specs.Field.{Bytes}
 use Rattle.walk.specs.Walk.{before, within, called, came, next, isEnd, toGo}
@@ -25,7 +26,7 @@ use Rattle.walk.proofs.Going.{next-is}
 use Rattle.walk.proofs.Nearer.{nearer}
 use Rattle.walk.proofs.Seats.{slot-seats, run-seats, applied-seats}
 use Rattle.scenario.specs.Fill.{fieldsFilled}
-use Rattle.scenario.specs.Lines.{textOf, slotText, passText}
+use Rattle.scenario.specs.Lines.{textOf, slotText, textAt, passText}
 use Rattle.scenario.specs.Pen.{pen, penned}
 use Rattle.scenario.proofs.Filling.{FillsTo, fills-first, fills-full, fills-next, fills-over, fills-came, came-nearer}
 use Rattle.scenario.proofs.Texts.{text-append, pass-next}
@@ -34,21 +35,21 @@ use Rattle.scenario.proofs.fill.fields.Statement.{statement}
 use Rattle.scenario.proofs.fill.fields.Tie as tie
 
 abbrev Inv-loop2 : tie.InvT-loop2
-Inv-loop2 s out₀ at used₀ bus to left n slot told₀ i₀ out used told i =
+Inv-loop2 s out₀ at used₀ bus to left n time told₀ i₀ out used told i =
     (i ≤ n) × (n ≤ seats) × (n ≡ attachedTo bus) × (length (bus .turns) ≡ seats)
-    × (penned (pen out used) (textOf slot (linesOf false (drop i (take n (bus .turns))))) ≡ penned (pen out₀ used₀) (textOf slot (linesOf false (take n (bus .turns)))))
+    × (penned (pen out used) (textAt time (linesOf false (drop i (take n (bus .turns))))) ≡ penned (pen out₀ used₀) (textAt time (linesOf false (take n (bus .turns)))))
     × (told ≡ isFound (firstFrom (meets WasTold) 0 (take i (bus .turns))))
 
 abbrev μ-loop2 : tie.MeasureT-loop2
-μ-loop2 s out₀ at used₀ bus to left n slot told₀ i₀ out used told i = n - i
+μ-loop2 s out₀ at used₀ bus to left n time told₀ i₀ out used told i = n - i
 
 abbrev Inv-loop3 : tie.InvT-loop3
-Inv-loop3 s out₀ at used₀ bus to left n slot told j₀ out used j =
+Inv-loop3 s out₀ at used₀ bus to left n time told j₀ out used j =
     (j ≤ n) × (n ≤ seats) × (n ≡ attachedTo bus) × (length (bus .turns) ≡ seats)
-    × (penned (pen out used) (textOf slot (linesOf true (drop j (take n (bus .turns))))) ≡ penned (pen out₀ used₀) (textOf slot (linesOf true (take n (bus .turns)))))
+    × (penned (pen out used) (textAt time (linesOf true (drop j (take n (bus .turns))))) ≡ penned (pen out₀ used₀) (textAt time (linesOf true (take n (bus .turns)))))
 
 abbrev μ-loop3 : tie.MeasureT-loop3
-μ-loop3 s out₀ at used₀ bus to left n slot told j₀ out used j = n - j
+μ-loop3 s out₀ at used₀ bus to left n time told j₀ out used j = n - j
 
 abbrev Inv-loop : tie.InvT-loop
 Inv-loop s out₀ at used₀ bus₀ place₀ out used bus place =
@@ -188,10 +189,13 @@ ran-seats c =
     (λ (match, task3, known-told3, slot-heard, e, f). rw (e, slot-heard .ensures) (slot-seats (l .loop .bus) _ ∙ l .loop .inv .2))
     (c .match .came)
 
+time-requires : tie.Need-time-requires Inv-loop2 μ-loop2 Inv-loop3 μ-loop3 Inv-loop μ-loop
+time-requires c κs = search needs
+
 loop2-holds : tie.Need-loop2-holds Inv-loop2 μ-loop2 Inv-loop3 μ-loop3 Inv-loop μ-loop
 loop2-holds c =
-    let e = c .attached .ensures in
-    (search needs, rw e (attached-fit _), e, ran-seats (c .before), refl, nobody)
+    let e = c .before .attached .ensures in
+    (search needs, rw e (attached-fit _), e, ran-seats (c .before .before), refl, nobody)
 
 mul-t : tie.Need-mul-t Inv-loop2 μ-loop2 Inv-loop3 μ-loop3 Inv-loop μ-loop
 mul-t c = search needs
@@ -214,8 +218,9 @@ loop2-less c = omega arith
 loop2-again : tie.Need-loop2-again Inv-loop2 μ-loop2 Inv-loop3 μ-loop3 Inv-loop μ-loop
 loop2-again c =
     let a = c .before .before .before .before .before in
-    let b = a .before .before .match .bus in
-    let n = a .before .attached .result in
+    let b = a .before .before .before .match .bus in
+    let n = a .before .before .attached .result in
+    let time = a .before .time .result in
     let i = a .loop2 .i in
     let h : n ≤ length (b .turns) = omega (arith, a .loop2 .inv .1, a .loop2 .inv .3) in
     let l : i < length (b .turns) = omega (arith, h, c .before .before .before .before .loop2-test .taken) in (
@@ -223,9 +228,9 @@ loop2-again c =
       a .loop2 .inv .1,
       a .loop2 .inv .2,
       a .loop2 .inv .3,
-      piece (pen (a .loop2 .out) (a .loop2 .used)) (passText (b .slot) false (getD (b .turns) i _)) (textOf (b .slot) (linesOf false (drop (i + 1) (take n (b .turns)))))
-          (textOf (b .slot) (linesOf false (drop i (take n (b .turns))))) (c .first-of .ensures)
-          (pass-next (b .slot) false (b .turns) n i _ h (c .before .before .before .before .loop2-test .taken))
+      piece (pen (a .loop2 .out) (a .loop2 .used)) (passText time false (getD (b .turns) i _)) (textAt time (linesOf false (drop (i + 1) (take n (b .turns)))))
+          (textAt time (linesOf false (drop i (take n (b .turns))))) (c .first-of .ensures)
+          (pass-next time false (b .turns) n i _ h (c .before .before .before .before .loop2-test .taken))
           ∙ a .loop2 .inv .4,
       found-turn (meets WasTold) i (b .turns) _ l (a .loop2 .inv .5) (c .before .before .or-told .ensures),
     )
@@ -253,17 +258,18 @@ loop3-less c = omega arith
 loop3-again : tie.Need-loop3-again Inv-loop2 μ-loop2 Inv-loop3 μ-loop3 Inv-loop μ-loop
 loop3-again c =
     let a = c .before .before .before .before in
-    let b = a .before .before .before .before .match .bus in
-    let n = a .before .before .before .attached .result in
+    let b = a .before .before .before .before .before .match .bus in
+    let n = a .before .before .before .before .attached .result in
+    let time = a .before .before .before .time .result in
     let j = a .loop3 .j in
     let h : n ≤ length (b .turns) = omega (arith, a .loop3 .inv .1, a .loop3 .inv .3) in (
       omega arith,
       a .loop3 .inv .1,
       a .loop3 .inv .2,
       a .loop3 .inv .3,
-      piece (pen (a .loop3 .out) (a .loop3 .used)) (passText (b .slot) true (getD (b .turns) j _)) (textOf (b .slot) (linesOf true (drop (j + 1) (take n (b .turns)))))
-          (textOf (b .slot) (linesOf true (drop j (take n (b .turns))))) (c .last-of .ensures)
-          (pass-next (b .slot) true (b .turns) n j _ h (c .before .before .before .loop3-test .taken))
+      piece (pen (a .loop3 .out) (a .loop3 .used)) (passText time true (getD (b .turns) j _)) (textAt time (linesOf true (drop (j + 1) (take n (b .turns)))))
+          (textAt time (linesOf true (drop j (take n (b .turns))))) (c .last-of .ensures)
+          (pass-next time true (b .turns) n j _ h (c .before .before .before .loop3-test .taken))
           ∙ a .loop3 .inv .4,
     )
 
@@ -271,41 +277,42 @@ came-requires : tie.Need-came-requires Inv-loop2 μ-loop2 Inv-loop3 μ-loop3 Inv
 came-requires c κs = search needs
 
 -- both passes are over: all have been asked, and all lines are written
-told-is : (a : tie.At-loop3 Inv-loop2 μ-loop2 Inv-loop3 μ-loop3 Inv-loop μ-loop) → a .before .before .loop2 .told ≡ thereIs (a .before .before .before .before .match .bus) WasTold
+told-is : (a : tie.At-loop3 Inv-loop2 μ-loop2 Inv-loop3 μ-loop3 Inv-loop μ-loop) → a .before .before .loop2 .told ≡ thereIs (a .before .before .before .before .before .match .bus) WasTold
 told-is a =
     let l = a .before .before in
-    let b = l .before .before .match .bus in
+    let b = l .before .before .before .match .bus in
     let e : l .loop2 .i ≡ attachedTo b = omega (arith, a .before .loop2-test .left, l .loop2 .inv .0, l .loop2 .inv .2) in
     all-asked b WasTold (l .loop2 .i) e (l .loop2 .inv .5)
 
-all-written : (slot : ℕ) (last : Bool) (l : List Turn) (n i : ℕ) → n ≤ i → textOf slot (linesOf last (drop i (take n l))) ≡ []
+all-written : (time : Time) (last : Bool) (l : List Turn) (n i : ℕ) → n ≤ i → textAt time (linesOf last (drop i (take n l))) ≡ []
 unfolding textOf
-all-written slot last l n i h =
+all-written time last l n i h =
     let e : length (take n l) ≤ i = simp length-take (omega arith) in
-    ap (λ (v : List Turn). textOf slot (linesOf last v)) (drop-of-length-le (take n l) e)
+    ap (λ (v : List Turn). textAt time (linesOf last v)) (drop-of-length-le (take n l) e)
 
 loop-less-3 : tie.Need-loop-less-3 Inv-loop2 μ-loop2 Inv-loop3 μ-loop3 Inv-loop μ-loop
 loop-less-3 c =
-    let m = c .before .before .before .before .before .before in
+    let m = c .before .before .before .before .before .before .before in
     let l = m .before .before .before in
     rw (c .came .ensures) (came-nearer (l .loop .bus) (l .loop .place) _ (m .match .bus) _ (m .match .left) _ (l .loop .inv .0) (ran-next m) (told-is (c .before .before)))
 
 loop-again-3 : tie.Need-loop-again-3 Inv-loop2 μ-loop2 Inv-loop3 μ-loop3 Inv-loop μ-loop
-unfolding slotText events
+unfolding slotText tellings events
 loop-again-3 c =
     let a = c .before .before in
     let f = a .before .before in
-    let m = f .before .before in
+    let m = f .before .before .before in
     let b = m .match .bus in
-    let n = f .before .attached .result in
+    let n = f .before .before .attached .result in
+    let time = f .before .time .result in
     let o = m .before .before in
     let l = o .before in
     let first =
-    finished (pen (f .loop2 .out) (f .loop2 .used)) _ (all-written (b .slot) false (b .turns) n (f .loop2 .i) (a .before .loop2-test .left)) (f .loop2 .inv .4) in
+    finished (pen (f .loop2 .out) (f .loop2 .used)) _ (all-written time false (b .turns) n (f .loop2 .i) (a .before .loop2-test .left)) (f .loop2 .inv .4) in
     let last =
-    finished (pen (a .loop3 .out) (a .loop3 .used)) _ (all-written (b .slot) true (b .turns) n (a .loop3 .j) (c .before .loop3-test .left)) (a .loop3 .inv .4) in
+    finished (pen (a .loop3 .out) (a .loop3 .used)) _ (all-written time true (b .turns) n (a .loop3 .j) (c .before .loop3-test .left)) (a .loop3 .inv .4) in
     let all : pen (a .loop3 .out) (a .loop3 .used) ≡ penned (pen (l .loop .out) (l .loop .used)) (slotText b) =
-    rw (← f .before .attached .ensures, text-append) (both _ _ _ first last) in
+    rw (← f .before .before .attached .ensures, ← f .before .time .ensures, text-append) (both _ _ _ first last) in
     (l .loop .inv .0, rw (c .came .ensures) (fills-came b _ (m .match .left) _ (l .loop .inv .0) (l .loop .inv .1) (o .loop-test .taken) (ran-next m) (told-is a) all), ran-seats m)
 
 printed-requires-2 : tie.Need-printed-requires-2 Inv-loop2 μ-loop2 Inv-loop3 μ-loop3 Inv-loop μ-loop
@@ -349,6 +356,7 @@ fields-spec =
     end-line-requires
     returns
     attached-requires
+    time-requires
     loop2-holds
     mul-t
     element-copy-out-t

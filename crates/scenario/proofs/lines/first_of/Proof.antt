@@ -37,11 +37,11 @@ failed-requires c κs = search needs
 enum-told-4 : tie.Need-enum-told-4
 enum-told-4 c = search needs
 
-slice-aggregate-plain-3 : tie.Need-slice-aggregate-plain-3
-slice-aggregate-plain-3 c = search needs
+slice-aggregate-counted : tie.Need-slice-aggregate-counted
+slice-aggregate-counted c = search needs
 
-plain-requires-3 : tie.Need-plain-requires-3
-plain-requires-3 c κs = search needs
+counted-requires : tie.Need-counted-requires
+counted-requires c κs = search needs
 
 enum-known-told-2 : tie.Need-enum-known-told-2
 enum-known-told-2 c = search needs
@@ -49,11 +49,11 @@ enum-known-told-2 c = search needs
 failed-requires-2 : tie.Need-failed-requires-2
 failed-requires-2 c κs = search needs
 
-slice-aggregate-plain-4 : tie.Need-slice-aggregate-plain-4
-slice-aggregate-plain-4 c = search needs
+slice-aggregate-counted-2 : tie.Need-slice-aggregate-counted-2
+slice-aggregate-counted-2 c = search needs
 
-plain-requires-4 : tie.Need-plain-requires-4
-plain-requires-4 c κs = search needs
+counted-requires-2 : tie.Need-counted-requires-2
+counted-requires-2 c κs = search needs
 
 enum-told-5 : tie.Need-enum-told-5
 enum-told-5 c = search needs
@@ -79,11 +79,11 @@ returns-4 c = rw (c .before .before .before .told .given .1, failed-text) (c .fa
 
 returns-5 : tie.Need-returns-5
 unfolding passText tells
-returns-5 c = rw (c .before .before .before .enum-told4 .given .1, free-text) (c .plain3 .ensures)
+returns-5 c = rw (c .before .before .before .enum-told4 .given .1, free-text) (c .counted .ensures)
 
 returns-6 : tie.Need-returns-6
 unfolding passText tells
-returns-6 c = rw (c .before .before .before .before .before .before .told2 .given .1, failed-free-text) (both _ _ _ (c .before .before .before .failed2 .ensures) (c .plain4 .ensures))
+returns-6 c = rw (c .before .before .before .before .before .before .told2 .given .1, failed-free-text) (both _ _ _ (c .before .before .before .failed2 .ensures) (c .counted2 .ensures))
 
 returns-7 : tie.Need-returns-7
 unfolding passText tells textOf
@@ -107,12 +107,12 @@ first-of-spec =
     enum-known-told
     failed-requires
     enum-told-4
-    slice-aggregate-plain-3
-    plain-requires-3
+    slice-aggregate-counted
+    counted-requires
     enum-known-told-2
     failed-requires-2
-    slice-aggregate-plain-4
-    plain-requires-4
+    slice-aggregate-counted-2
+    counted-requires-2
     enum-told-5
     enum-told-6
     returns

@@ -76,7 +76,7 @@ returns-7 c =
     let b = c .before .before .before .before .before .before in
     let o = b .args in
     rw (c .before .before .enum-told7 .given .1)
-    (c .given .ensures ∙ ap (λ (v : List ℕ). penned (pen (o .page .now) (o .at)) v) (sym (given-text (o .slot) (o .t .station .address) (o .t .station .part) (sixteen b))))
+    (c .given .ensures ∙ ap (λ (v : List ℕ). penned (pen (o .page .now) (o .at)) v) (sym (given-text (o .time) (o .t .station .address) (o .t .station .part) (sixteen b))))
 
 returns-8 : tie.Need-returns-8
 unfolding passText tells
@@ -84,7 +84,7 @@ returns-8 c =
     let b = c .before .before .before .before .before .before in
     let o = b .args in
     rw (c .before .before .enum-told8 .given .1)
-    (c .answer .ensures ∙ ap (λ (v : List ℕ). penned (pen (o .page .now) (o .at)) v) (sym (answer-text (o .slot) (o .t .station .address) (o .t .station .part) (sixteen b))))
+    (c .answer .ensures ∙ ap (λ (v : List ℕ). penned (pen (o .page .now) (o .at)) v) (sym (answer-text (o .time) (o .t .station .address) (o .t .station .part) (sixteen b))))
 
 pub last-of-spec : {M : Type 1} → statement M
 last-of-spec =
