@@ -12,8 +12,9 @@ use Rattle.laws.proofs.FirstIs.{Every, next}
 use Rattle.scenario.specs.Pen.{Pen, pen, penned, room}
 use Rattle.scenario.proofs.Fills.{place-is, written-bytes, same-length}
 use Rattle.scenario.proofs.Written.{penned-append}
+use Rattle.bus.specs.Events.{Line}
 use Rattle.log.specs.Latest.{joined}
-use Rattle.log.specs.Record.{Line, recordOf}
+use Rattle.log.specs.Record.{recordOf}
 use Rattle.log.proofs.Formed.{Short28, length-record}
 use Rattle.log.proofs.Longest.{length-first}
 use Rattle.diary.specs.Fill.{lineRoom, Fill, filling, filledFrom, filled, Prints, finished, after}

@@ -9,8 +9,9 @@ use Rattle.laws.specs.AtMost.{atMost}
 use Rattle.laws.proofs.AtMost.{at-most-same}
 use Rattle.scenario.specs.Lines.{newline, hexesText}
 use Rattle.scenario.proofs.Fits.{hexes-length}
+use Rattle.bus.specs.Events.{Line}
 use Rattle.log.specs.Latest.{joined}
-use Rattle.log.specs.Record.{Line, valueOf, recordOf}
+use Rattle.log.specs.Record.{valueOf, recordOf}
 use Rattle.log.proofs.Formed.{length-record}
 use Rattle.log.proofs.OldestGoWhole.{lines-at-most}
 use Rattle.diary.specs.Lines.{digitsText, recordLine, sizeOf, linesFrom, linesText}

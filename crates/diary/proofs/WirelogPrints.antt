@@ -15,10 +15,11 @@ use Rattle.walk.specs.Moments.{moments}
 use Rattle.walk.specs.declared.form.Form.{Form}
 use Rattle.walk.specs.declared.form.Form.the-variants.{Good, BadField, TooLong}
 use Rattle.log.specs.Fitting.{fittingRun}
+use Rattle.bus.specs.Events.{Line}
 use Rattle.log.specs.Latest.{joined, longestRun, allLines}
 use Rattle.log.specs.Log.{withinLimits, freshFor, setUpFor}
 use Rattle.log.specs.Read.{Copying, copying, readInto}
-use Rattle.log.specs.Record.{Line, recordOf}
+use Rattle.log.specs.Record.{recordOf}
 use Rattle.log.specs.Ring.{Ring, ring, heldBytes}
 use Rattle.log.specs.Roomy.{AllRoomy}
 use Rattle.log.specs.Sound.{Sound}

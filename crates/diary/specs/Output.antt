@@ -6,9 +6,10 @@ use Rattle.walk.specs.Form.{formOf}
 use Rattle.walk.specs.Moments.{moments}
 use Rattle.walk.specs.declared.form.Form.{Form}
 use Rattle.walk.specs.declared.form.Form.the-variants.{Good, BadField, TooLong}
+use Rattle.bus.specs.Events.{Line}
 use Rattle.log.specs.Latest.{longestRun, allLines}
 use Rattle.log.specs.Log.{withinLimits}
-use Rattle.log.specs.Record.{Line, recordOf}
+use Rattle.log.specs.Record.{recordOf}
 use Rattle.log.specs.declared.log.SetUp.{SetUp}
 use Rattle.log.specs.declared.log.SetUp.the-variants.{Ready, BadLength}
 use Rattle.scenario.specs.Lines.{refusedText, newline, formText}
