@@ -7,6 +7,7 @@
 mod access;
 mod answers;
 mod calls;
+mod elapsed;
 mod form;
 pub mod logs;
 mod over_long;
@@ -57,6 +58,7 @@ pub fn entries() -> impl Iterator<Item = &'static Entry> {
         parts::ENTRIES,
         answers::ENTRIES,
         over_long::ENTRIES,
+        elapsed::ENTRIES,
     ];
     lists.into_iter().flatten()
 }
