@@ -129,7 +129,7 @@ impl Bus {
         while left > 0 {
             if self.at_rest() && left >= 10 {
                 let tens = left - left % 10;
-                self.slot = self.slot.wrapping_add(tens);
+                self.slots_go_by(tens);
                 left -= tens;
                 continue;
             }
@@ -198,10 +198,16 @@ impl Bus {
         Some(self.transfer.reply.at(self.transfer.reply_sent))
     }
 
-    /// Quiet slots in which nobody sends and the generator stays quiet.
-    fn pass_quietly(&mut self, count: u32) {
+    /// Here alone slots are counted, so that none is lost to a shortcut.
+    fn slots_go_by(&mut self, count: u32) {
         self.slot = self.slot.wrapping_add(count);
         self.has_run = true;
+        self.transfer.slots_go_by(count);
+    }
+
+    /// Quiet slots in which nobody sends and the generator stays quiet.
+    fn pass_quietly(&mut self, count: u32) {
+        self.slots_go_by(count);
         self.quiet += count as u8;
         self.admitted = 0;
     }
@@ -209,13 +215,13 @@ impl Bus {
     fn pass(&mut self, heard: Heard) {
         let generated = self.quiet == QUIET_LIMIT;
         let told_before = self.events.len();
-        self.slot = self.slot.wrapping_add(1);
-        self.has_run = true;
+        self.slots_go_by(1);
         match heard {
             None => self.hear_quiet(),
             Some(SYN) => self.hear_syn(),
             Some(symbol) => self.hear_symbol(symbol),
         }
+        self.transfer.slot_is_over();
         let counts = heard.is_none() && !generated;
         self.quiet = if counts { self.quiet + 1 } else { 0 };
         let told = &mut self.events[told_before..];
@@ -225,7 +231,8 @@ impl Bus {
     }
 
     fn tell(&mut self, station: u8, word: Word) {
-        self.events.push(Event { slot: self.slot, station, word });
+        let tenure = self.transfer.tenure;
+        self.events.push(Event { slot: self.slot, tenure, station, word });
     }
 
     /// The owner leaves the wire and its telegram leaves the queue.
@@ -319,10 +326,7 @@ impl Bus {
         for station in members(self.contenders()) {
             let name = self.table.name(station);
             if name == symbol {
-                self.transfer.owner = Some(station);
-                self.transfer.part = self.table.oldest(station);
-                self.transfer.part_sent = 0;
-                self.transfer.readers &= !(1 << station);
+                self.transfer.owned_by(station, self.table.oldest(station));
                 self.tell(station, Word::Owns);
             } else if class(name) == class(symbol) {
                 self.marked |= 1 << station;

@@ -1,10 +1,11 @@
-//! How often each event, each refusal and each NN above 16 came up.
+//! How often each event, each refusal and each NN above 16 came up, and how
+//! long the wire was held.
 
-use crate::event::{Event, OverLong, Role, Word};
+use crate::event::{Event, OverLong, Role, Tenure, Word};
 use std::fmt;
 
 /// There is no refusal 13.
-const NAMES: [&str; 36] = [
+const NAMES: [&str; 42] = [
     "owns",
     "taken-owner",
     "taken-slave",
@@ -41,6 +42,12 @@ const NAMES: [&str; 36] = [
     "over-long-broadcast",
     "over-long-answer",
     "over-long-answer-repeated",
+    "left-taken",
+    "left-failed",
+    "left-given-one",
+    "left-given-broadcast",
+    "free-1",
+    "free-over-255",
 ];
 
 /// Before refusal 1.
@@ -51,6 +58,13 @@ const FAILED_OWNER: usize = 3;
 const FAILED_SLAVE: usize = 9;
 const OVER_LONG: usize = 31;
 
+/// What somebody in step is told after the owner has left.
+const LEFT: usize = 36;
+
+/// Owners that fail at once, and those whose count needs a second byte.
+const FREE_1: usize = 40;
+const FREE_OVER_255: usize = 41;
+
 /// The longest part has 39 symbols, so nothing exceeds the wire buffer.
 const UNREACHABLE: &str = "refused-6";
 
@@ -58,12 +72,14 @@ const UNREACHABLE: &str = "refused-6";
 pub struct Coverage {
     scenarios: u64,
     counts: [u64; NAMES.len()],
+    /// The greatest count of elapsed slots.
+    longest: u32,
 }
 
 /// By hand, because it cannot be derived for more than 32 counts.
 impl Default for Coverage {
     fn default() -> Coverage {
-        Coverage { scenarios: 0, counts: [0; NAMES.len()] }
+        Coverage { scenarios: 0, counts: [0; NAMES.len()], longest: 0 }
     }
 }
 
@@ -81,6 +97,18 @@ fn place_of(event: &Event) -> usize {
     }
 }
 
+/// Some events count a second time, for where they stand to an owner.
+fn place_by_tenure(event: &Event) -> Option<usize> {
+    match (event.tenure, &event.word) {
+        (Tenure::Left, Word::Taken(_)) => Some(LEFT),
+        (Tenure::Left, Word::Failed(..)) => Some(LEFT + 1),
+        (Tenure::Left, Word::Given { broadcast, .. }) => Some(LEFT + 2 + usize::from(*broadcast)),
+        (Tenure::Held(1), Word::Free) => Some(FREE_1),
+        (Tenure::Held(256..), Word::Free) => Some(FREE_OVER_255),
+        _ => None,
+    }
+}
+
 impl Coverage {
     pub fn scenario(&mut self) {
         self.scenarios += 1;
@@ -88,6 +116,10 @@ impl Coverage {
 
     pub fn event(&mut self, event: &Event) {
         self.counts[place_of(event)] += 1;
+        if let Some(place) = place_by_tenure(event) {
+            self.counts[place] += 1;
+        }
+        self.longest = self.longest.max(event.elapsed());
     }
 
     pub fn refusal(&mut self, number: u8) {
@@ -104,6 +136,7 @@ impl Coverage {
         for (mine, theirs) in self.counts.iter_mut().zip(other.counts) {
             *mine += theirs;
         }
+        self.longest = self.longest.max(other.longest);
     }
 
     /// What a wild enough maker should have reached and has not.
@@ -127,6 +160,7 @@ pub fn write_counts(f: &mut fmt::Formatter, names: &[&str], counts: &[u64]) -> f
 impl fmt::Display for Coverage {
     fn fmt(&self, f: &mut fmt::Formatter) -> fmt::Result {
         write!(f, "coverage scenarios={}", self.scenarios)?;
-        write_counts(f, &NAMES, &self.counts)
+        write_counts(f, &NAMES, &self.counts)?;
+        write!(f, " longest={}", self.longest)
     }
 }

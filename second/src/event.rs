@@ -56,14 +56,35 @@ pub enum Word {
     Answer { slave: u8, part: Intake },
 }
 
+/// How the slot of an event stands to an owner. Only the coverage tells those
+/// who go on without their owner from those who never had one.
+#[derive(Clone, Copy, PartialEq, Eq, Debug)]
+pub enum Tenure {
+    /// Nobody has owned the wire since the last SYN.
+    Nobodys,
+    /// So many slots since the owner's owns line.
+    Held(u32),
+    /// The owner has left before this slot.
+    Left,
+}
+
 #[derive(Clone, Copy)]
 pub struct Event {
     pub slot: u32,
+    pub tenure: Tenure,
     pub station: u8,
     pub word: Word,
 }
 
 impl Event {
+    /// The elapsed slots of 02 (E4); 0 outside a transfer.
+    pub fn elapsed(&self) -> u32 {
+        match self.tenure {
+            Tenure::Held(slots) => slots,
+            Tenure::Nobodys | Tenure::Left => 0,
+        }
+    }
+
     /// Parts handed out come after everything else; within each of the two
     /// groups the stations stand in attach order.
     pub fn rank(&self) -> (bool, u8) {

@@ -48,7 +48,10 @@ pub fn push_event(out: &mut Vec<u8>, table: &Table, event: &Event) {
             out.extend_from_slice(b" failed ");
             push_decimal(out, failure.number() as u32);
         }
-        Word::Free => out.extend_from_slice(b" free"),
+        Word::Free => {
+            out.extend_from_slice(b" free ");
+            push_decimal(out, event.elapsed());
+        }
         Word::Given { part, .. } => {
             out.extend_from_slice(b" given");
             push_byte(out, part.source());

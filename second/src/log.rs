@@ -55,7 +55,7 @@ impl Log {
 
 /// One event in the tagged form; the station is named as in the bench lines.
 pub fn record(station: u8, event: &Event) -> Vec<u8> {
-    let (tag, values) = tag_and_values(&event.word);
+    let (tag, values) = tag_and_values(event);
     let [a, b, c, d] = event.slot.to_be_bytes();
     let mut record = Vec::new();
     push_field(&mut record, tag, &[a, b, c, d, station], &values);
@@ -63,12 +63,12 @@ pub fn record(station: u8, event: &Event) -> Vec<u8> {
 }
 
 /// Tags count the words in the order in which 01 names them.
-fn tag_and_values(word: &Word) -> (u8, Vec<u8>) {
-    match word {
+fn tag_and_values(event: &Event) -> (u8, Vec<u8>) {
+    match &event.word {
         Word::Owns => (1, vec![]),
         Word::Taken(_) => (2, vec![]),
         Word::Failed(_, failure) => (3, vec![failure.number()]),
-        Word::Free => (4, vec![]),
+        Word::Free => (4, event.elapsed().to_be_bytes().to_vec()),
         Word::Given { part, .. } => {
             (5, [&[part.source()], &part.command()[..], part.payload()].concat())
         }

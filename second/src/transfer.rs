@@ -1,6 +1,6 @@
 //! The transfer under way, as an onlooker at the wire writes it down.
 
-use crate::event::OverLong;
+use crate::event::{OverLong, Tenure};
 use crate::intake::Intake;
 use crate::wire::{Wire, BROADCAST};
 
@@ -26,6 +26,8 @@ pub enum Stage {
 pub struct Transfer {
     pub stage: Stage,
     pub owner: Option<u8>,
+    /// Outlasts the owner to the end of the slot in which it leaves.
+    pub tenure: Tenure,
     /// The slave that sends or has sent the answer.
     pub slave: Option<u8>,
     /// Stations that still read the master part, the owner not among them.
@@ -53,6 +55,7 @@ impl Transfer {
         Transfer {
             stage: Stage::Silence,
             owner: None,
+            tenure: Tenure::Nobodys,
             slave: None,
             readers: 0,
             part: Wire::EMPTY,
@@ -74,11 +77,35 @@ impl Transfer {
     pub fn start(&mut self, everybody: u32) {
         self.stage = Stage::Part;
         self.owner = None;
+        self.tenure = Tenure::Nobodys;
         self.slave = None;
         self.readers = everybody;
         self.heard_part = Intake::master_part();
         self.part_repeated = false;
         self.ack_due = false;
+    }
+
+    /// The count begins in the slot of the owns line.
+    pub fn owned_by(&mut self, station: u8, part: Wire) {
+        self.owner = Some(station);
+        self.tenure = Tenure::Held(0);
+        self.part = part;
+        self.part_sent = 0;
+        self.readers &= !(1 << station);
+    }
+
+    /// Every slot counts while somebody owns, whatever is heard in it.
+    pub fn slots_go_by(&mut self, count: u32) {
+        if let Tenure::Held(slots) = &mut self.tenure {
+            *slots = slots.wrapping_add(count);
+        }
+    }
+
+    /// The slot of the free line was still inside.
+    pub fn slot_is_over(&mut self) {
+        if self.owner.is_none() && self.tenure != Tenure::Nobodys {
+            self.tenure = Tenure::Left;
+        }
     }
 
     /// The part from its first symbol again; who fell silent stays out.

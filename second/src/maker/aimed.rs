@@ -235,6 +235,23 @@ fn over_long(draft: &mut Draft) -> u8 {
     }
 }
 
+/// Whoever waits goes on waiting, also past the SYNs of the generator: those
+/// slots are heard as quiet too.
+fn long_quiet(draft: &mut Draft) {
+    let syns = if draft.random.percent(80) { 2 } else { 40 };
+    let one_by_one = draft.random.percent(50);
+    draft.put(Op::Quiet);
+    for _ in 0..draft.random.between(1, syns) {
+        let slots = draft.bench.bus.slots_to_syn();
+        if one_by_one {
+            (0..slots).for_each(|_| draft.put(Op::Quiet));
+        } else {
+            draft.run(slots - 1);
+            draft.put(Op::Quiet);
+        }
+    }
+}
+
 /// The acknowledgement slot and the slots after it.
 fn verdict(draft: &mut Draft) {
     let due = draft.bench.bus.transfer().ack_due;
@@ -244,7 +261,8 @@ fn verdict(draft: &mut Draft) {
         10..=59 => ACK,
         60..=88 => NAK,
         89..=91 => SYN,
-        92..=95 => return draft.put(Op::Quiet),
+        92..=94 => return draft.put(Op::Quiet),
+        95 => return long_quiet(draft),
         _ => draft.noise(),
     };
     draft.heard(symbol);
@@ -292,7 +310,8 @@ fn foreign_answer(draft: &mut Draft) {
     let sound = answer.next_sound(0, 0, filler);
     let symbol = match draft.random.below(100) {
         0..=49 if answer.check_is_syn() => SYN,
-        0..=2 => return draft.put(Op::Quiet),
+        0 => return long_quiet(draft),
+        1..=2 => return draft.put(Op::Quiet),
         3..=4 => SYN,
         5..=6 => return run_to_syn(draft),
         7..=16 if answer.at_count() => over_long(draft),

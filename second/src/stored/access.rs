@@ -27,15 +27,15 @@ pub const ENTRIES: &[Entry] = &[
         "access-p8",
         "00 and 01: 00 at once",
         "01 0001 00  01 0001 01  04 0004 00 FE 5002  04 0004 01 FE 5002  05 0002 0018",
-        "11 00 owns / 16 00 taken / 16 01 given 00 50 02 00 / 17 00 free
-         / 18 01 owns / 23 01 taken / 23 00 given 01 50 02 00 / 24 01 free / end 24",
+        "11 00 owns / 16 00 taken / 16 01 given 00 50 02 00 / 17 00 free 6
+         / 18 01 owns / 23 01 taken / 23 00 given 01 50 02 00 / 24 01 free 6 / end 24",
     ),
     entry(
         "access-p9",
         "10 and 01: word 00, then 10",
         "01 0001 10  01 0001 01  04 0004 10 FE 5002  04 0004 01 FE 5002  05 0002 0023",
-        "22 10 owns / 27 10 taken / 27 01 given 10 50 02 00 / 28 10 free
-         / 29 01 owns / 34 01 taken / 34 10 given 01 50 02 00 / 35 01 free / end 35",
+        "22 10 owns / 27 10 taken / 27 01 given 10 50 02 00 / 28 10 free 6
+         / 29 01 owns / 34 01 taken / 34 10 given 01 50 02 00 / 35 01 free 6 / end 35",
     ),
     entry(
         "access-p10",
@@ -43,25 +43,25 @@ pub const ENTRIES: &[Entry] = &[
         "01 0001 F0  01 0001 30  01 0001 1F
          04 0004 F0 FE 5002  04 0004 30 FE 5002  04 0004 1F FE 5002  05 0002 0035",
         "22 30 owns / 27 30 taken / 27 F0 given 30 50 02 00 / 27 1F given 30 50 02 00
-         / 28 30 free
+         / 28 30 free 6
          / 40 F0 owns / 45 F0 taken / 45 30 given F0 50 02 00 / 45 1F given F0 50 02 00
-         / 46 F0 free
+         / 46 F0 free 6
          / 47 1F owns / 52 1F taken / 52 F0 given 1F 50 02 00 / 52 30 given 1F 50 02 00
-         / 53 1F free / end 53",
+         / 53 1F free 6 / end 53",
     ),
     entry(
         "access-p11",
         "31 and 13: word 11, then 31",
         "01 0001 31  01 0001 13  04 0004 31 FE 5002  04 0004 13 FE 5002  05 0002 0023",
-        "22 31 owns / 27 31 taken / 27 13 given 31 50 02 00 / 28 31 free
-         / 29 13 owns / 34 13 taken / 34 31 given 13 50 02 00 / 35 13 free / end 35",
+        "22 31 owns / 27 31 taken / 27 13 given 31 50 02 00 / 28 31 free 6
+         / 29 13 owns / 34 13 taken / 34 31 given 13 50 02 00 / 35 13 free 6 / end 35",
     ),
     entry(
         "access-p12",
         "FF and 7F, of one class: 7F at once",
         "01 0001 FF  01 0001 7F  04 0004 FF FE 5002  04 0004 7F FE 5002  05 0002 0018",
-        "11 7F owns / 16 7F taken / 16 FF given 7F 50 02 00 / 17 7F free
-         / 18 FF owns / 23 FF taken / 23 7F given FF 50 02 00 / 24 FF free / end 24",
+        "11 7F owns / 16 7F taken / 16 FF given 7F 50 02 00 / 17 7F free 6
+         / 18 FF owns / 23 FF taken / 23 7F given FF 50 02 00 / 24 FF free 6 / end 24",
     ),
     entry(
         "access-newcomer",
@@ -69,11 +69,11 @@ pub const ENTRIES: &[Entry] = &[
         "01 0001 00  01 0001 10  01 0001 01  04 0004 10 FE 5002  04 0004 01 FE 5002
          05 0002 000C  04 0004 00 FE 5002  05 0002 001E",
         "22 10 owns / 27 10 taken / 27 00 given 10 50 02 00 / 27 01 given 10 50 02 00
-         / 28 10 free
+         / 28 10 free 6
          / 29 00 owns / 34 00 taken / 34 10 given 00 50 02 00 / 34 01 given 00 50 02 00
-         / 35 00 free
+         / 35 00 free 6
          / 36 01 owns / 41 01 taken / 41 00 given 01 50 02 00 / 41 10 given 01 50 02 00
-         / 42 01 free / end 42",
+         / 42 01 free 6 / end 42",
     ),
     entry(
         "access-nobody-marked",
@@ -86,14 +86,14 @@ pub const ENTRIES: &[Entry] = &[
         "30 owns though 10 should have; it fails at once, and the SYN admits 10 but not 00",
         "01 0001 00  01 0001 30  01 0001 10  04 0004 30 FE 5002  04 0004 10 FE 5002
          05 0002 000A  06 0001 30  07 0000  04 0004 00 FE 5002  05 0002 000A",
-        "11 30 owns / 12 30 failed 1 / 12 30 free / 22 10 owns / end 22",
+        "11 30 owns / 12 30 failed 1 / 12 30 free 1 / 22 10 owns / end 22",
     ),
     entry(
         "access-marks-go-out",
         "30 is marked in 11 and admitted in 12; 05 in 13 marks nobody, SYN in 23 admits nobody",
         "01 0001 30  01 0001 10  04 0004 30 FE 5002  04 0004 10 FE 5002
          05 0002 000B  06 0001 AA  06 0001 05  05 0002 0015",
-        "11 10 owns / 12 10 failed 1 / 12 10 free / 34 30 owns / end 34",
+        "11 10 owns / 12 10 failed 1 / 12 10 free 1 / 34 30 owns / end 34",
     ),
     entry(
         "access-mark-by-any-symbol",

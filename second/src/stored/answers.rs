@@ -10,7 +10,7 @@ pub const ENTRIES: &[Entry] = &[
         "01 0001 10  02 0001 08  03 0004 08 5002 64  04 0004 10 08 5002
          05 0002 0012  06 0001 65  05 0002 000A",
         "11 10 owns / 17 10 taken / 17 08 given 10 50 02 00 / 19 08 failed 1
-         / 29 10 failed 4 / 29 10 free / end 29",
+         / 29 10 failed 4 / 29 10 free 18 / end 29",
     ),
     entry(
         "slave-failed-1-quiet",
@@ -18,7 +18,7 @@ pub const ENTRIES: &[Entry] = &[
         "01 0001 10  02 0001 08  03 0004 08 5002 64  04 0004 10 08 5002
          05 0002 0012  07 0000  05 0002 0009",
         "11 10 owns / 17 10 taken / 17 08 given 10 50 02 00 / 19 08 failed 1
-         / 28 10 failed 4 / 28 10 free / end 28",
+         / 28 10 failed 4 / 28 10 free 17 / end 28",
     ),
     entry(
         "slave-failed-1-lone",
@@ -57,7 +57,7 @@ pub const ENTRIES: &[Entry] = &[
         "FE for FF in 20: the owner sends FF, but 00 is heard in 21",
         "01 0001 10  04 0004 10 08 5002  05 0002 0010  06 0001 00
          06 0001 01  06 0001 64  06 0001 FE  06 0001 00  05 0002 0001",
-        "11 10 owns / 17 10 taken / 21 10 failed 2 / 22 10 free / end 22",
+        "11 10 owns / 17 10 taken / 21 10 failed 2 / 22 10 free 11 / end 22",
     ),
     entry(
         "answer-failed-2-symbol",
@@ -65,7 +65,7 @@ pub const ENTRIES: &[Entry] = &[
         "01 0001 10  02 0001 08  03 0004 08 5002 64  04 0004 10 08 5002
          05 0002 0014  06 0001 05  05 0002 0001",
         "11 10 owns / 17 10 taken / 17 08 given 10 50 02 00
-         / 21 10 failed 2 / 21 08 failed 2 / 22 10 free / end 22",
+         / 21 10 failed 2 / 21 08 failed 2 / 22 10 free 11 / end 22",
     ),
     entry(
         "answer-failed-3",
@@ -73,7 +73,7 @@ pub const ENTRIES: &[Entry] = &[
         "01 0001 10  02 0001 08  03 0004 08 5002 64  04 0004 10 08 5002
          05 0002 0014  06 0001 FF  05 0002 0003  06 0001 FF  05 0002 0001",
         "11 10 owns / 17 10 taken / 17 08 given 10 50 02 00
-         / 25 10 failed 3 / 25 08 failed 3 / 26 10 free / end 26",
+         / 25 10 failed 3 / 25 08 failed 3 / 26 10 free 15 / end 26",
     ),
     entry(
         "answer-failed-4-ack",
@@ -81,34 +81,34 @@ pub const ENTRIES: &[Entry] = &[
         "01 0001 10  02 0001 08  03 0004 08 5002 64  04 0004 10 08 5002
          05 0002 0014  06 0001 AA",
         "11 10 owns / 17 10 taken / 17 08 given 10 50 02 00
-         / 21 10 failed 4 / 21 10 free / 21 08 failed 4 / end 21",
+         / 21 10 failed 4 / 21 10 free 10 / 21 08 failed 4 / end 21",
     ),
     entry(
         "answer-failed-4-awaited",
         "no answer comes: SYN in 27",
         "01 0001 10  04 0004 10 08 5002  05 0002 0010  06 0001 00  05 0002 000A",
-        "11 10 owns / 17 10 taken / 27 10 failed 4 / 27 10 free / end 27",
+        "11 10 owns / 17 10 taken / 27 10 failed 4 / 27 10 free 16 / end 27",
     ),
     entry(
         "answer-failed-4-after-a9",
         "A9 in 19, AA in 20: failed 4, not 5",
         "01 0001 10  04 0004 10 08 5002  05 0002 0010  06 0001 00
          06 0001 01  06 0001 A9  06 0001 AA",
-        "11 10 owns / 17 10 taken / 20 10 failed 4 / 20 10 free / end 20",
+        "11 10 owns / 17 10 taken / 20 10 failed 4 / 20 10 free 9 / end 20",
     ),
     entry(
         "answer-failed-4-crc-aa",
         "01 31 has the CRC AA; AA in 20 is a SYN all the same",
         "01 0001 10  04 0004 10 08 5002  05 0002 0010  06 0001 00
          06 0001 01  06 0001 31  06 0001 AA",
-        "11 10 owns / 17 10 taken / 20 10 failed 4 / 20 10 free / end 20",
+        "11 10 owns / 17 10 taken / 20 10 failed 4 / 20 10 free 9 / end 20",
     ),
     entry(
         "answer-failed-5",
         "A9 in 19, 05 in 20",
         "01 0001 10  04 0004 10 08 5002  05 0002 0010  06 0001 00
          06 0001 01  06 0001 A9  06 0001 05  05 0002 0001",
-        "11 10 owns / 17 10 taken / 20 10 failed 5 / 21 10 free / end 21",
+        "11 10 owns / 17 10 taken / 20 10 failed 5 / 21 10 free 10 / end 21",
     ),
     entry(
         "answer-failed-5-and-1",
@@ -116,7 +116,7 @@ pub const ENTRIES: &[Entry] = &[
         "01 0001 10  02 0001 08  03 0004 08 5002 A9  04 0004 10 08 5002
          05 0002 0013  06 0001 05  05 0002 0001",
         "11 10 owns / 17 10 taken / 17 08 given 10 50 02 00
-         / 20 10 failed 5 / 20 08 failed 1 / 21 10 free / end 21",
+         / 20 10 failed 5 / 20 08 failed 1 / 21 10 free 10 / end 21",
     ),
     entry(
         "answer-repeated",
@@ -124,7 +124,7 @@ pub const ENTRIES: &[Entry] = &[
         "01 0001 10  02 0001 08  03 0004 08 5002 64  04 0004 10 08 5002
          05 0002 0014  06 0001 FF  05 0002 0005",
         "11 10 owns / 17 10 taken / 17 08 given 10 50 02 00
-         / 25 08 taken / 25 10 answer 08 01 64 / 26 10 free / end 26",
+         / 25 08 taken / 25 10 answer 08 01 64 / 26 10 free 15 / end 26",
     ),
     entry(
         "answer-and-part-repeated",
@@ -132,7 +132,7 @@ pub const ENTRIES: &[Entry] = &[
         "01 0001 10  02 0001 08  03 0004 08 5002 64  04 0004 10 08 5002
          05 0002 0010  06 0001 FF  05 0002 000A  06 0001 FF  05 0002 0005",
         "11 10 owns / 24 10 taken / 24 08 given 10 50 02 00
-         / 32 08 taken / 32 10 answer 08 01 64 / 33 10 free / end 33",
+         / 32 08 taken / 32 10 answer 08 01 64 / 33 10 free 22 / end 33",
     ),
     entry(
         "answer-repeated-second-good",
@@ -140,7 +140,7 @@ pub const ENTRIES: &[Entry] = &[
         "01 0001 10  04 0004 10 08 5002  05 0002 0010  06 0001 00
          06 0001 01  06 0001 64  06 0001 FE  05 0002 0001
          06 0001 01  06 0001 64  06 0001 FF  05 0002 0002",
-        "11 10 owns / 17 10 taken / 25 10 answer 08 01 64 / 26 10 free / end 26",
+        "11 10 owns / 17 10 taken / 25 10 answer 08 01 64 / 26 10 free 15 / end 26",
     ),
     entry(
         "answer-repeated-both-damaged",
@@ -148,7 +148,7 @@ pub const ENTRIES: &[Entry] = &[
         "01 0001 10  04 0004 10 08 5002  05 0002 0010  06 0001 00
          06 0001 01  06 0001 64  06 0001 FE  05 0002 0001
          06 0001 01  06 0001 64  06 0001 FE  05 0002 0002",
-        "11 10 owns / 17 10 taken / 25 10 failed 3 / 26 10 free / end 26",
+        "11 10 owns / 17 10 taken / 25 10 failed 3 / 26 10 free 15 / end 26",
     ),
     entry(
         "answer-repeated-second-damaged",
@@ -156,7 +156,7 @@ pub const ENTRIES: &[Entry] = &[
         "01 0001 10  04 0004 10 08 5002  05 0002 0010  06 0001 00
          06 0001 01  06 0001 64  06 0001 FF  06 0001 FF
          06 0001 01  06 0001 64  06 0001 FE  06 0001 00  05 0002 0001",
-        "11 10 owns / 17 10 taken / 25 10 failed 2 / 26 10 free / end 26",
+        "11 10 owns / 17 10 taken / 25 10 failed 2 / 26 10 free 15 / end 26",
     ),
     entry(
         "answer-expanded",
@@ -165,11 +165,11 @@ pub const ENTRIES: &[Entry] = &[
          03 0005 08 5002 AAA9  03 0004 08 5003 31  03 0004 08 5004 32
          04 0004 10 08 5002  04 0004 10 08 5003  04 0004 10 08 5004  05 0002 0033",
         "11 10 owns / 17 10 taken / 17 08 given 10 50 02 00
-         / 24 08 taken / 24 10 answer 08 02 AA A9 / 25 10 free
+         / 24 08 taken / 24 10 answer 08 02 AA A9 / 25 10 free 14
          / 26 10 owns / 32 10 taken / 32 08 given 10 50 03 00
-         / 37 08 taken / 37 10 answer 08 01 31 / 38 10 free
+         / 37 08 taken / 37 10 answer 08 01 31 / 38 10 free 12
          / 39 10 owns / 45 10 taken / 45 08 given 10 50 04 00
-         / 50 08 taken / 50 10 answer 08 01 32 / 51 10 free / end 51",
+         / 50 08 taken / 50 10 answer 08 01 32 / 51 10 free 12 / end 51",
     ),
     entry(
         "answer-expanded-heard",
@@ -177,29 +177,29 @@ pub const ENTRIES: &[Entry] = &[
         "01 0001 10  04 0004 10 08 5002  04 0004 10 08 5003
          05 0002 0010  06 0001 00  06 0001 01  06 0001 A9  06 0001 01  06 0001 FA
          05 0002 0008  06 0001 00  06 0001 01  06 0001 31  06 0001 A9  06 0001 01  05 0002 0002",
-        "11 10 owns / 17 10 taken / 22 10 answer 08 01 AA / 23 10 free
-         / 24 10 owns / 30 10 taken / 35 10 answer 08 01 31 / 36 10 free / end 36",
+        "11 10 owns / 17 10 taken / 22 10 answer 08 01 AA / 23 10 free 12
+         / 24 10 owns / 30 10 taken / 35 10 answer 08 01 31 / 36 10 free 12 / end 36",
     ),
     entry(
         "answer-p6",
         "01 64 FF heard: the CRC FF is no acknowledgement",
         "01 0001 10  04 0004 10 08 5002  05 0002 0010  06 0001 00
          06 0001 01  06 0001 64  06 0001 FF  05 0002 0002",
-        "11 10 owns / 17 10 taken / 21 10 answer 08 01 64 / 22 10 free / end 22",
+        "11 10 owns / 17 10 taken / 21 10 answer 08 01 64 / 22 10 free 11 / end 22",
     ),
     entry(
         "answer-p7",
         "no entry for 50 02: the answer 00 00, then the owner's 00",
         "01 0001 10  02 0001 08  03 0004 08 5003 64  04 0004 10 08 5002  05 0002 0015",
         "11 10 owns / 17 10 taken / 17 08 given 10 50 02 00
-         / 20 08 taken / 20 10 answer 08 00 / 21 10 free / end 21",
+         / 20 08 taken / 20 10 answer 08 00 / 21 10 free 10 / end 21",
     ),
     entry(
         "answer-p7-heard",
         "00 00 heard from elsewhere and the 00 of the owner lost: only the 00 in 21 ends it",
         "01 0001 10  04 0004 10 08 5002  05 0002 0010  06 0001 00
          06 0001 00  06 0001 00  07 0000  06 0001 00  05 0002 0001",
-        "11 10 owns / 17 10 taken / 21 10 answer 08 00 / 22 10 free / end 22",
+        "11 10 owns / 17 10 taken / 21 10 answer 08 00 / 22 10 free 11 / end 22",
     ),
     entry(
         "answer-nn-heard",
@@ -209,16 +209,16 @@ pub const ENTRIES: &[Entry] = &[
          06 0001 00  06 0001 01  06 0001 02  06 0001 03  06 0001 04  06 0001 05
          06 0001 06  06 0001 07  06 0001 08  06 0001 09  06 0001 0A  06 0001 0B
          06 0001 0C  06 0001 0D  06 0001 0E  06 0001 0F  06 0001 6E  05 0002 0002",
-        "11 10 owns / 17 10 taken / 18 10 failed 5 / 19 10 free / 20 10 owns / 26 10 taken
+        "11 10 owns / 17 10 taken / 18 10 failed 5 / 19 10 free 8 / 20 10 owns / 26 10 taken
          / 45 10 answer 08 10 00 01 02 03 04 05 06 07 08 09 0A 0B 0C 0D 0E 0F
-         / 46 10 free / end 46",
+         / 46 10 free 26 / end 46",
     ),
     entry(
         "answer-of-a-master",
         "36 is the slave address of 31: 31 answers, named 36 in the answer line",
         "01 0001 31  01 0001 10  03 0004 36 5002 64  04 0004 10 36 5002  05 0002 0016",
         "11 10 owns / 17 10 taken / 17 31 given 10 50 02 00
-         / 21 31 taken / 21 10 answer 36 01 64 / 22 10 free / end 22",
+         / 21 31 taken / 21 10 answer 36 01 64 / 22 10 free 11 / end 22",
     ),
     entry(
         "reply-changed-in-time",
@@ -226,7 +226,7 @@ pub const ENTRIES: &[Entry] = &[
         "01 0001 10  02 0001 08  03 0004 08 5002 64  04 0004 10 08 5002
          05 0002 0011  03 0004 08 5002 65  05 0002 0005",
         "11 10 owns / 17 10 taken / 17 08 given 10 50 02 00
-         / 21 08 taken / 21 10 answer 08 01 65 / 22 10 free / end 22",
+         / 21 08 taken / 21 10 answer 08 01 65 / 22 10 free 11 / end 22",
     ),
     entry(
         "reply-changed-too-late",
@@ -235,6 +235,6 @@ pub const ENTRIES: &[Entry] = &[
          05 0002 0011  06 0001 01  03 0004 08 5002 65  05 0002 0002  06 0001 FF  03 0004 08 5002 66
          05 0002 0005",
         "11 10 owns / 17 10 taken / 17 08 given 10 50 02 00
-         / 25 08 taken / 25 10 answer 08 01 64 / 26 10 free / end 26",
+         / 25 08 taken / 25 10 answer 08 01 64 / 26 10 free 15 / end 26",
     ),
 ];

@@ -60,7 +60,7 @@ pub const ENTRIES: &[Entry] = &[
          / 16 F3 given 00 50 02 00 / 16 F7 given 00 50 02 00 / 16 FF given 00 50 02 00
          / 16 50 given 00 50 02 00 / 16 51 given 00 50 02 00 / 16 52 given 00 50 02 00
          / 16 53 given 00 50 02 00 / 16 54 given 00 50 02 00 / 16 55 given 00 50 02 00
-         / 16 56 given 00 50 02 00 / 17 00 free / end 17",
+         / 16 56 given 00 50 02 00 / 17 00 free 6 / end 17",
     ),
     entry(
         "refused-1",
@@ -100,7 +100,7 @@ pub const ENTRIES: &[Entry] = &[
          04 0130 10 08 5002 ( 00 )*300  05 0002 0025",
         "refused 4 / refused 4 / 11 10 owns / 33 10 taken
          / 33 08 given 10 50 02 10 00 01 02 03 04 05 06 07 08 09 0A 0B 0C 0D 0E 0F
-         / 36 08 taken / 36 10 answer 08 00 / 37 10 free / end 37",
+         / 36 08 taken / 36 10 answer 08 00 / 37 10 free 26 / end 37",
     ),
     entry(
         "limit-nn-reply",
@@ -111,7 +111,7 @@ pub const ENTRIES: &[Entry] = &[
          04 0004 10 08 5002  05 0002 0025",
         "refused 4 / 11 10 owns / 17 10 taken / 17 08 given 10 50 02 00 / 36 08 taken
          / 36 10 answer 08 10 00 01 02 03 04 05 06 07 08 09 0A 0B 0C 0D 0E 0F
-         / 37 10 free / end 37",
+         / 37 10 free 26 / end 37",
     ),
     entry(
         "limit-telegrams",
@@ -122,11 +122,11 @@ pub const ENTRIES: &[Entry] = &[
          04 0004 10 FE 5006  05 0002 0001  04 0004 10 FE 5007  04 0004 10 FE 5008
          05 0002 001C",
         "refused 5 / 11 10 owns / refused 5 / 16 10 taken / 16 08 given 10 50 01 00
-         / refused 5 / 17 10 free / refused 5
-         / 18 10 owns / 23 10 taken / 23 08 given 10 50 02 00 / 24 10 free
-         / 25 10 owns / 30 10 taken / 30 08 given 10 50 03 00 / 31 10 free
-         / 32 10 owns / 37 10 taken / 37 08 given 10 50 04 00 / 38 10 free
-         / 39 10 owns / 44 10 taken / 44 08 given 10 50 07 00 / 45 10 free / end 45",
+         / refused 5 / 17 10 free 6 / refused 5
+         / 18 10 owns / 23 10 taken / 23 08 given 10 50 02 00 / 24 10 free 6
+         / 25 10 owns / 30 10 taken / 30 08 given 10 50 03 00 / 31 10 free 6
+         / 32 10 owns / 37 10 taken / 37 08 given 10 50 04 00 / 38 10 free 6
+         / 39 10 owns / 44 10 taken / 44 08 given 10 50 07 00 / 45 10 free 6 / end 45",
     ),
     entry(
         "limit-replies",
@@ -137,9 +137,9 @@ pub const ENTRIES: &[Entry] = &[
          03 0004 08 5009 09  03 0004 08 5008 88  04 0004 10 08 5008  04 0004 10 08 5009
          05 0002 0021",
         "refused 12 / 11 10 owns / 17 10 taken / 17 08 given 10 50 08 00
-         / 21 08 taken / 21 10 answer 08 01 88 / 22 10 free
+         / 21 08 taken / 21 10 answer 08 01 88 / 22 10 free 11
          / 23 10 owns / 29 10 taken / 29 08 given 10 50 09 00
-         / 32 08 taken / 32 10 answer 08 00 / 33 10 free / end 33",
+         / 32 08 taken / 32 10 answer 08 00 / 33 10 free 10 / end 33",
     ),
     entry(
         "refused-order",

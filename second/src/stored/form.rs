@@ -9,7 +9,7 @@ pub const ENTRIES: &[Entry] = &[
         "the input that 01 prints the lines of",
         "01 0001 10  02 0001 08  03 0004 08 5002 64  04 0004 10 08 5002  05 0002 0016",
         "11 10 owns / 17 10 taken / 17 08 given 10 50 02 00
-         / 21 08 taken / 21 10 answer 08 01 64 / 22 10 free / end 22",
+         / 21 08 taken / 21 10 answer 08 01 64 / 22 10 free 11 / end 22",
     ),
     entry(
         "size-65536",

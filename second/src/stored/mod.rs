@@ -7,6 +7,7 @@
 mod access;
 mod answers;
 mod calls;
+mod elapsed;
 mod form;
 pub mod logs;
 mod over_long;
@@ -57,6 +58,7 @@ pub fn entries() -> impl Iterator<Item = &'static Entry> {
         parts::ENTRIES,
         answers::ENTRIES,
         over_long::ENTRIES,
+        elapsed::ENTRIES,
     ];
     lists.into_iter().flatten()
 }
@@ -168,14 +170,32 @@ mod tests {
     fn over_long_is_counted_by_its_place() {
         let counts = |name| {
             let line = bench::run(&bytes_of(name)).1.to_string();
-            let values = line.split(" over-long-").skip(1).map(|count| count.split_once('='));
-            values.map(|value| value.unwrap().1.to_string()).collect::<Vec<_>>().join(" ")
+            let values = line.split(" over-long-").skip(1).map(|count| count.split(['=', ' ']));
+            values.map(|mut words| words.nth(1).unwrap().to_string()).collect::<Vec<_>>().join(" ")
         };
         assert_eq!(counts("over-long-to-slave"), "1 0 0 0 0");
         assert_eq!(counts("over-long-in-repeat"), "0 1 0 0 0");
         assert_eq!(counts("over-long-broadcast-ff"), "0 0 1 0 0");
         assert_eq!(counts("over-long-answer-ff"), "0 0 0 1 0");
         assert_eq!(counts("over-long-answer-in-repeat"), "0 0 0 0 2");
+    }
+
+    #[test]
+    fn tenures_are_counted() {
+        let counts = |name| {
+            let line = bench::run(&bytes_of(name)).1.to_string();
+            line[line.find(" left-").unwrap() + 1..].to_string()
+        };
+        let left = "left-taken=1 left-failed=1 left-given-one=2 left-given-broadcast=0";
+        assert_eq!(
+            counts("elapsed-slave-after-owner"),
+            format!("{left} free-1=0 free-over-255=0 longest=11")
+        );
+        let none = "left-taken=0 left-failed=0 left-given-one=0 left-given-broadcast=0";
+        let long = format!("{none} free-1=0 free-over-255=1 longest=256");
+        assert_eq!(counts("elapsed-quiet-answer"), long);
+        let at_once = format!("{none} free-1=1 free-over-255=0 longest=1");
+        assert_eq!(counts("access-mark-of-a-loser"), at_once);
     }
 
     #[test]

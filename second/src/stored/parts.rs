@@ -8,49 +8,49 @@ pub const ENTRIES: &[Entry] = &[
         "PB, sent in 13, is heard as 51",
         "01 0001 10  02 0001 08  03 0004 08 5002 64  04 0004 10 08 5002
          05 0002 000C  06 0001 51  05 0002 000A",
-        "11 10 owns / 13 10 failed 1 / 13 10 free / end 23",
+        "11 10 owns / 13 10 failed 1 / 13 10 free 2 / end 23",
     ),
     entry(
         "owner-failed-1-quiet",
         "SB, sent in 14, is heard as quiet",
         "01 0001 10  02 0001 08  03 0004 08 5002 64  04 0004 10 08 5002
          05 0002 000D  07 0000  05 0002 0009",
-        "11 10 owns / 14 10 failed 1 / 14 10 free / end 23",
+        "11 10 owns / 14 10 failed 1 / 14 10 free 3 / end 23",
     ),
     entry(
         "owner-failed-1-syn",
         "SB, sent in 14, is heard as AA: it admits at once, and the next telegram goes",
         "01 0001 10  02 0001 08  03 0004 08 5002 64  04 0004 10 08 5002  04 0004 10 08 5003
          05 0002 000D  06 0001 AA  05 0002 000B",
-        "11 10 owns / 14 10 failed 1 / 14 10 free / 15 10 owns / 21 10 taken
-         / 21 08 given 10 50 03 00 / 24 08 taken / 24 10 answer 08 00 / 25 10 free / end 25",
+        "11 10 owns / 14 10 failed 1 / 14 10 free 3 / 15 10 owns / 21 10 taken
+         / 21 08 given 10 50 03 00 / 24 08 taken / 24 10 answer 08 00 / 25 10 free 10 / end 25",
     ),
     entry(
         "owner-failed-2",
         "the acknowledgement in 17 is heard as FE",
         "01 0001 10  02 0001 08  03 0004 08 5002 64  04 0004 10 08 5002
          05 0002 0010  06 0001 FE  05 0002 0001",
-        "11 10 owns / 17 10 failed 2 / 18 10 free / end 18",
+        "11 10 owns / 17 10 failed 2 / 18 10 free 7 / end 18",
     ),
     entry(
         "owner-failed-3",
         "FF in 17 and, after the repetition, in 24",
         "01 0001 10  02 0001 08  03 0004 08 5002 64  04 0004 10 08 5002
          05 0002 0010  06 0001 FF  05 0002 0006  06 0001 FF  05 0002 0001",
-        "11 10 owns / 24 10 failed 3 / 25 10 free / end 25",
+        "11 10 owns / 24 10 failed 3 / 25 10 free 14 / end 25",
     ),
     entry(
         "owner-failed-4",
         "the acknowledgement in 17 is heard as AA",
         "01 0001 10  02 0001 08  03 0004 08 5002 64  04 0004 10 08 5002
          05 0002 0010  06 0001 AA",
-        "11 10 owns / 17 10 failed 4 / 17 10 free / end 17",
+        "11 10 owns / 17 10 failed 4 / 17 10 free 6 / end 17",
     ),
     entry(
         "owner-failed-4-nobody",
         "nobody at 08: nine quiet slots, the generator's SYN in 26",
         "01 0001 10  04 0004 10 08 5002  05 0002 001A",
-        "11 10 owns / 26 10 failed 4 / 26 10 free / end 26",
+        "11 10 owns / 26 10 failed 4 / 26 10 free 15 / end 26",
     ),
     entry(
         "ack-late",
@@ -58,14 +58,14 @@ pub const ENTRIES: &[Entry] = &[
         "01 0001 10  02 0001 08  03 0004 08 5002 64  04 0004 10 08 5002
          05 0002 0010  07 0000  07 0000  06 0001 00  05 0002 0005",
         "11 10 owns / 19 10 taken / 19 08 given 10 50 02 00
-         / 23 08 taken / 23 10 answer 08 01 64 / 24 10 free / end 24",
+         / 23 08 taken / 23 10 answer 08 01 64 / 24 10 free 13 / end 24",
     ),
     entry(
         "ack-lost",
         "17 is heard as quiet: 08 does not send its 00 again, SYN in 26",
         "01 0001 10  02 0001 08  03 0004 08 5002 64  04 0004 10 08 5002
          05 0002 0010  07 0000  05 0002 0009",
-        "11 10 owns / 26 10 failed 4 / 26 10 free / end 26",
+        "11 10 owns / 26 10 failed 4 / 26 10 free 15 / end 26",
     ),
     entry(
         "release-disturbed",
@@ -73,9 +73,9 @@ pub const ENTRIES: &[Entry] = &[
         "01 0001 10  02 0001 08  03 0004 08 5002 64  04 0004 10 08 5002  04 0004 10 08 5003
          05 0002 0015  06 0001 55  05 0002 0014  07 0000",
         "11 10 owns / 17 10 taken / 17 08 given 10 50 02 00
-         / 21 08 taken / 21 10 answer 08 01 64 / 22 10 free
+         / 21 08 taken / 21 10 answer 08 01 64 / 22 10 free 11
          / 33 10 owns / 39 10 taken / 39 08 given 10 50 03 00
-         / 42 08 taken / 42 10 answer 08 00 / 43 10 free / end 43",
+         / 42 08 taken / 42 10 answer 08 00 / 43 10 free 10 / end 43",
     ),
     entry(
         "part-repeated",
@@ -83,7 +83,7 @@ pub const ENTRIES: &[Entry] = &[
         "01 0001 10  02 0001 08  03 0004 08 5002 64  04 0004 10 08 5002
          05 0002 0010  06 0001 FF  05 0002 000C",
         "11 10 owns / 24 10 taken / 24 08 given 10 50 02 00
-         / 28 08 taken / 28 10 answer 08 01 64 / 29 10 free / end 29",
+         / 28 08 taken / 28 10 answer 08 01 64 / 29 10 free 18 / end 29",
     ),
     entry(
         "part-repeated-second-good",
@@ -135,7 +135,7 @@ pub const ENTRIES: &[Entry] = &[
         "10 to FE with data 64: all but 10 hand it out with the CRC",
         "01 0001 10  01 0001 30  02 0001 08  04 0005 10 FE 5002 64  05 0002 0012",
         "11 10 owns / 17 10 taken / 17 30 given 10 50 02 01 64 / 17 08 given 10 50 02 01 64
-         / 18 10 free / end 18",
+         / 18 10 free 7 / end 18",
     ),
     entry(
         "broadcast-not-owned",
@@ -174,13 +174,13 @@ pub const ENTRIES: &[Entry] = &[
         "SB is heard as 03, then 00 66: 08 reads 10 FE 50 03 00 66, 10 is silent",
         "01 0001 10  02 0001 08  04 0004 10 FE 5002  05 0002 000D
          06 0001 03  06 0001 00  06 0001 66",
-        "11 10 owns / 14 10 failed 1 / 14 10 free / 16 08 given 10 50 03 00 / end 16",
+        "11 10 owns / 14 10 failed 1 / 14 10 free 3 / 16 08 given 10 50 03 00 / end 16",
     ),
     entry(
         "master-to-master",
         "10 to the master address 30: acknowledged, no answer",
         "01 0001 10  01 0001 30  03 0004 35 5002 64  04 0004 10 30 5002  05 0002 0012",
-        "11 10 owns / 17 10 taken / 17 30 given 10 50 02 00 / 18 10 free / end 18",
+        "11 10 owns / 17 10 taken / 17 30 given 10 50 02 00 / 18 10 free 7 / end 18",
     ),
     entry(
         "master-heard-no-answer",
@@ -196,13 +196,13 @@ pub const ENTRIES: &[Entry] = &[
         "01 0001 10  02 0001 08  04 0005 10 08 5002 AA  04 0005 10 08 5002 A9
          04 0005 10 08 5002 7E  04 0005 10 08 5002 7D  05 0002 003E",
         "11 10 owns / 19 10 taken / 19 08 given 10 50 02 01 AA
-         / 22 08 taken / 22 10 answer 08 00 / 23 10 free
+         / 22 08 taken / 22 10 answer 08 00 / 23 10 free 12
          / 24 10 owns / 32 10 taken / 32 08 given 10 50 02 01 A9
-         / 35 08 taken / 35 10 answer 08 00 / 36 10 free
+         / 35 08 taken / 35 10 answer 08 00 / 36 10 free 12
          / 37 10 owns / 45 10 taken / 45 08 given 10 50 02 01 7E
-         / 48 08 taken / 48 10 answer 08 00 / 49 10 free
+         / 48 08 taken / 48 10 answer 08 00 / 49 10 free 12
          / 50 10 owns / 58 10 taken / 58 08 given 10 50 02 01 7D
-         / 61 08 taken / 61 10 answer 08 00 / 62 10 free / end 62",
+         / 61 08 taken / 61 10 answer 08 00 / 62 10 free 12 / end 62",
     ),
     entry(
         "parts-p2-to-p5-heard",
@@ -234,7 +234,7 @@ pub const ENTRIES: &[Entry] = &[
         "01 0001 10  02 0001 08  04 0014 10 08 50C4 ( AA )*16  05 0002 0036",
         "11 10 owns / 50 10 taken
          / 50 08 given 10 50 C4 10 AA AA AA AA AA AA AA AA AA AA AA AA AA AA AA AA
-         / 53 08 taken / 53 10 answer 08 00 / 54 10 free / end 54",
+         / 53 08 taken / 53 10 answer 08 00 / 54 10 free 43 / end 54",
     ),
     entry(
         "part-long-after-short",
@@ -243,8 +243,8 @@ pub const ENTRIES: &[Entry] = &[
          04 0014 10 08 5002 000102030405060708090A0B0C0D0E0F
          05 0002 0010  06 0001 FE  05 0002 0007  06 0001 00  05 0002 0007  06 0001 00
          05 0002 0018",
-        "11 10 owns / 17 10 failed 2 / 18 10 free / 19 10 owns / 25 10 taken / 26 10 free
-         / 27 10 owns / 33 10 taken / 34 10 free / 35 10 owns / 57 10 taken
+        "11 10 owns / 17 10 failed 2 / 18 10 free 7 / 19 10 owns / 25 10 taken / 26 10 free 7
+         / 27 10 owns / 33 10 taken / 34 10 free 7 / 35 10 owns / 57 10 taken
          / 57 08 given 10 50 02 10 00 01 02 03 04 05 06 07 08 09 0A 0B 0C 0D 0E 0F / end 57",
     ),
     entry(

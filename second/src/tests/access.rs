@@ -35,10 +35,10 @@ fn collision_across_classes_goes_on() {
     let lines = [
         "22 10 owns",
         "37 10 failed 4",
-        "37 10 free",
+        "37 10 free 15",
         "38 01 owns",
         "53 01 failed 4",
-        "53 01 free",
+        "53 01 free 15",
         "end 53",
     ];
     expect(&ops, &lines);
@@ -53,10 +53,10 @@ fn collision_inside_a_class() {
     let lines = [
         "11 10 owns",
         "26 10 failed 4",
-        "26 10 free",
+        "26 10 free 15",
         "27 30 owns",
         "42 30 failed 4",
-        "42 30 free",
+        "42 30 free 15",
         "end 42",
     ];
     expect(&ops, &lines);
@@ -88,7 +88,7 @@ fn loser_marks_itself_when_another_won() {
     let mut ops = vec![master(0x00)];
     ops.extend(all_want(&[0x30, 0x10]));
     ops.extend([run(10), heard(0x30), quiet(), queue(&[0x00, 8, 0x50, 2]), run(10)]);
-    let lines = ["11 30 owns", "12 30 failed 1", "12 30 free", "22 10 owns", "end 22"];
+    let lines = ["11 30 owns", "12 30 failed 1", "12 30 free 1", "22 10 owns", "end 22"];
     expect(&ops, &lines);
 }
 

@@ -113,11 +113,11 @@ fn over_long_by_a_disturbed_owner() {
     let start = [master(0x10), slave(0x08), queue(&[0x10, 0x08, 0x50, 0x02])];
     let again = queue(&[0x10, 0x08, 0x50, 0x03]);
     let first = [&start[..], &[again, run(14), heard(0x11), run(11)]].concat();
-    let lines = ["11 10 owns", "15 10 failed 1", "15 10 free", "26 10 owns", "end 26"];
+    let lines = ["11 10 owns", "15 10 failed 1", "15 10 free 4", "26 10 owns", "end 26"];
     expect(&first, &lines);
     let repeated = [run(16), heard(0xFF), run(4), heard(0x11), run(11)];
     let second = [&start[..], &[again], &repeated].concat();
-    let lines = ["11 10 owns", "22 10 failed 1", "22 10 free", "33 10 owns", "end 33"];
+    let lines = ["11 10 owns", "22 10 failed 1", "22 10 free 11", "33 10 owns", "end 33"];
     expect(&second, &lines);
 }
 
@@ -252,7 +252,7 @@ fn lost_owner_leaves_the_reader_in_step() {
     let lines = [
         "11 10 owns",
         "15 10 failed 1",
-        "15 10 free",
+        "15 10 free 4",
         "18 08 given 10 50 02 01 64",
         "21 08 taken",
         "end 22",

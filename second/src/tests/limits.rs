@@ -22,7 +22,7 @@ fn sixteen_data_bytes_and_seventeen() {
         &given,
         "36 08 taken",
         "36 10 answer 08 00",
-        "37 10 free",
+        "37 10 free 26",
         "end 37",
     ];
     expect(&ops, &lines);
@@ -55,7 +55,7 @@ fn telegrams_4_and_5() {
         "17 10 taken",
         "17 31 given 10 50 02 00",
         "refused 5",
-        "18 10 free",
+        "18 10 free 7",
         "refused 5",
         "end 18",
     ];
@@ -99,7 +99,8 @@ fn slot_number_wraps() {
 
 #[test]
 fn lines_across_the_wrap() {
-    // The sample with slot 17 as number 0.
+    // The sample with slot 17 as number 0: 4294967290 is six before it, and 4
+    // is four after it.
     let mut bench = Bench::new();
     bench.apply(&master(0x10));
     bench.apply(&slave(0x08));
@@ -108,7 +109,7 @@ fn lines_across_the_wrap() {
     bench.apply(&run(21));
     let text = String::from_utf8(bench.finish().0).unwrap();
     let wanted = "ebus bench\n4294967290 10 owns\n0 10 taken\n0 08 given 10 50 02 00\n\
-                  3 08 taken\n3 10 answer 08 00\n4 10 free\nend 4\n";
+                  3 08 taken\n3 10 answer 08 00\n4 10 free 10\nend 4\n";
     assert_eq!(text, wanted);
 }
 

@@ -1,8 +1,9 @@
-//! The log: its limits, its records and what goes. Sizes: owns, taken and free
-//! 8 bytes, failed 9, given 12 and the data, answer 10 and the data.
+//! The log: its limits, its records and what goes. Sizes: owns and taken 8
+//! bytes, failed 9, free 12, given 12 and the data, answer 10 and the data.
 
 use super::*;
 use crate::bus::Bus;
+use crate::event::{Event, Tenure, Word};
 use crate::log::{record, Log};
 use crate::maker;
 use crate::wirelog;
@@ -36,7 +37,7 @@ const SAMPLE: [&str; 6] = [
     "05 00 09 00 00 00 11 08 10 50 02 00",
     "02 00 05 00 00 00 15 08",
     "06 00 08 00 00 00 15 10 08 01 64",
-    "04 00 05 00 00 00 16 10",
+    "04 00 09 00 00 00 16 10 00 00 00 0B",
 ];
 
 #[test]
@@ -84,14 +85,17 @@ fn nothing_told_nothing_held() {
 fn failed_has_its_number() {
     // Nobody at 08: the generator's SYN in 26.
     let ops = [master(0x10), queue(&TELEGRAM), run(26)];
-    let lines =
-        ["01 00 05 00 00 00 0B 10", "03 00 06 00 00 00 1A 10 04", "04 00 05 00 00 00 1A 10"];
+    let lines = [
+        "01 00 05 00 00 00 0B 10",
+        "03 00 06 00 00 00 1A 10 04",
+        "04 00 09 00 00 00 1A 10 00 00 00 0F",
+    ];
     expect_log(64, &ops, &lines);
 }
 
 #[test]
 fn filled_to_the_last_byte() {
-    // Eight records of 8 bytes are 64; the ninth takes the room of the first.
+    // Twice 8, 8 and 12, then 8 and 8: 72 bytes. The last 12 make 84.
     let to_nobody = [0x10, 0x30, 0x50, 0x02];
     let mut ops = vec![master(0x10)];
     ops.extend([queue(&to_nobody); 3]);
@@ -101,19 +105,23 @@ fn filled_to_the_last_byte() {
     let all = [
         "01 00 05 00 00 00 0B 10",
         "02 00 05 00 00 00 11 10",
-        "04 00 05 00 00 00 12 10",
+        "04 00 09 00 00 00 12 10 00 00 00 07",
         "01 00 05 00 00 00 13 10",
         "02 00 05 00 00 00 19 10",
-        "04 00 05 00 00 00 1A 10",
+        "04 00 09 00 00 00 1A 10 00 00 00 07",
         "01 00 05 00 00 00 1B 10",
         "02 00 05 00 00 00 21 10",
-        "04 00 05 00 00 00 22 10",
+        "04 00 09 00 00 00 22 10 00 00 00 07",
     ];
-    expect_log(72, &ops, &all);
-    expect_log(71, &ops, &all[1..]);
-    expect_log(64, &ops, &all[1..]);
-    // Without the last release nothing goes.
-    expect_log(64, &ops[..ops.len() - 1], &all[..8]);
+    expect_log(84, &ops, &all);
+    // 76 without the first, 68 without two, then 56.
+    expect_log(83, &ops, &all[1..]);
+    expect_log(76, &ops, &all[1..]);
+    expect_log(75, &ops, &all[2..]);
+    expect_log(68, &ops, &all[2..]);
+    expect_log(67, &ops, &all[3..]);
+    // Without the last release nothing goes from 72.
+    expect_log(72, &ops[..ops.len() - 1], &all[..8]);
 }
 
 /// Records of given sizes, told apart by their last byte.
@@ -133,6 +141,11 @@ fn many_gone_for_one() {
     assert_eq!(noted(64, &[8, 8, 8, 8, 8, 8, 8, 8, 28]), [4, 5, 6, 7, 8]);
     assert_eq!(noted(67, &[8, 8, 8, 8, 8, 8, 8, 8, 28]), [4, 5, 6, 7, 8]);
     assert_eq!(noted(68, &[8, 8, 8, 8, 8, 8, 8, 8, 28]), [3, 4, 5, 6, 7, 8]);
+    // The same with records as they come: owns, taken, failed, free; owns,
+    // taken, free; owns, taken, given. 81 bytes and 28; with three gone 84.
+    let sizes = [8, 8, 9, 12, 8, 8, 12, 8, 8, 28];
+    assert_eq!(noted(83, &sizes), [4, 5, 6, 7, 8, 9]);
+    assert_eq!(noted(84, &sizes), [3, 4, 5, 6, 7, 8, 9]);
     // Whole records go, though less room would have done.
     assert_eq!(noted(64, &[28, 28, 8, 8]), [1, 2, 3]);
     assert_eq!(noted(64, &[28, 28, 8]), [0, 1, 2]);
@@ -147,6 +160,13 @@ fn slot_number_in_four_bytes() {
     bus.run(11);
     let event = bus.events()[0];
     assert_eq!(record(0x10, &event), [1, 0, 5, 1, 2, 3, 4, 0x10]);
+}
+
+#[test]
+fn elapsed_slots_in_four_bytes() {
+    let free = |tenure| Event { slot: 0x0102_0304, tenure, station: 0, word: Word::Free };
+    let held = record(0x10, &free(Tenure::Held(0x0506_0708)));
+    assert_eq!(held, [4, 0, 9, 1, 2, 3, 4, 0x10, 5, 6, 7, 8]);
 }
 
 #[test]

@@ -1,7 +1,9 @@
 //! What must hold for every made scenario.
 
 use crate::bench;
+use crate::bus::Bus;
 use crate::compare::{coverage, log_coverage};
+use crate::event::{Event, Word};
 use crate::log::LENGTHS;
 use crate::maker;
 use crate::scenario::{self, Op};
@@ -49,6 +51,42 @@ fn hearing_what_is_sent_changes_nothing() {
             }
         }
         assert_eq!(bench::run(&whole).0, lines.finish().0, "seed {seed}");
+    }
+}
+
+/// The events of a scenario with slot number 0 in slot `ahead`.
+fn events_with_a_wrap(ops: &[Op], ahead: u32) -> Vec<Event> {
+    let mut bus = Bus::new();
+    bus.set_slot_number(0u32.wrapping_sub(ahead));
+    let mut events = Vec::new();
+    for op in ops {
+        let _ = bench::operate(&mut bus, op);
+        events.extend_from_slice(bus.events());
+        bus.forget_events();
+    }
+    events
+}
+
+/// What 02 says, by subtraction: in the slots from owns to free the slots since
+/// owns, in all others 0.
+#[test]
+fn elapsed_follows_from_the_owns_and_free_lines() {
+    for seed in 0..3000 {
+        let whole = maker::make(seed);
+        let Ok(ops) = scenario::parse(&whole) else { continue };
+        let events = events_with_a_wrap(&ops, seed as u32 % 500);
+        let mut owns = None;
+        for of_slot in events.chunk_by(|one, next| one.slot == next.slot) {
+            let slot = of_slot[0].slot;
+            if of_slot.iter().any(|event| matches!(event.word, Word::Owns)) {
+                owns = Some(slot);
+            }
+            let wanted = owns.map_or(0, |owns| slot.wrapping_sub(owns));
+            assert!(of_slot.iter().all(|event| event.elapsed() == wanted), "seed {seed} {slot}");
+            if of_slot.iter().any(|event| matches!(event.word, Word::Free)) {
+                owns = None;
+            }
+        }
     }
 }
 
@@ -100,16 +138,24 @@ fn records_are_those_of_the_bench_lines() {
     }
 }
 
+fn hex(word: &str) -> u8 {
+    u8::from_str_radix(word, 16).unwrap()
+}
+
 /// From the text of a line to the text of its record.
 fn record_of(line: &str) -> String {
     let words: Vec<&str> = line.split(' ').collect();
     let slot: u32 = words[0].parse().unwrap();
     let names = ["owns", "taken", "failed", "free", "given", "answer"];
     let tag = names.iter().position(|name| *name == words[2]).unwrap() + 1;
-    let mut bytes = vec![tag as u8, 0, words.len() as u8 + 2];
-    bytes.extend(slot.to_be_bytes());
-    let values = words[1..].iter().filter(|word| !names.contains(word));
-    bytes.extend(values.map(|value| u8::from_str_radix(value, 16).unwrap()));
+    let mut value = slot.to_be_bytes().to_vec();
+    value.push(hex(words[1]));
+    match words[2..] {
+        ["free", elapsed] => value.extend(elapsed.parse::<u32>().unwrap().to_be_bytes()),
+        ref others => value.extend(others[1..].iter().map(|word| hex(word))),
+    }
+    let mut bytes = vec![tag as u8, 0, value.len() as u8];
+    bytes.extend(value);
     let text: Vec<String> = bytes.iter().map(|byte| format!("{byte:02X}")).collect();
     text.join(" ")
 }

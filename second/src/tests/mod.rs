@@ -4,6 +4,7 @@
 
 mod access;
 mod answers;
+mod elapsed;
 mod exact;
 mod foreign;
 mod limits;

@@ -16,7 +16,7 @@ fn sample_of_01() {
         0x04, 0x00, 0x04, 0x10, 0x08, 0x50, 0x02, 0x05, 0x00, 0x02, 0x00, 0x16,
     ];
     let wanted = "ebus bench\n11 10 owns\n17 10 taken\n17 08 given 10 50 02 00\n21 08 taken\n\
-                  21 10 answer 08 01 64\n22 10 free\nend 22\n";
+                  21 10 answer 08 01 64\n22 10 free 11\nend 22\n";
     assert_eq!(printed_for(&file), wanted);
 }
 
@@ -24,49 +24,49 @@ fn sample_of_01() {
 fn owner_failed_1_on_another_symbol_quiet_and_syn() {
     for disturbance in [heard(0x77), quiet(), heard(0xAA)] {
         let ops = lone(&[run(12), disturbance, run(1)]);
-        expect(&ops, &["11 10 owns", "13 10 failed 1", "13 10 free", "end 14"]);
+        expect(&ops, &["11 10 owns", "13 10 failed 1", "13 10 free 2", "end 14"]);
     }
 }
 
 #[test]
 fn owner_failed_1_in_the_last_symbol() {
     let ops = lone(&[run(15), heard(0x39), run(3)]);
-    expect(&ops, &["11 10 owns", "16 10 failed 1", "16 10 free", "end 19"]);
+    expect(&ops, &["11 10 owns", "16 10 failed 1", "16 10 free 5", "end 19"]);
 }
 
 #[test]
 fn owner_failed_2_on_another_acknowledgement() {
     let ops = lone(&[run(16), heard(0x05), run(1)]);
-    expect(&ops, &["11 10 owns", "17 10 failed 2", "18 10 free", "end 18"]);
+    expect(&ops, &["11 10 owns", "17 10 failed 2", "18 10 free 7", "end 18"]);
 }
 
 #[test]
 fn owner_failed_3_after_the_repetition() {
     // 17 FF, 18 to 23 the part again, 24 FF, 25 SYN.
     let ops = lone(&[run(16), heard(0xFF), run(6), heard(0xFF), run(1)]);
-    expect(&ops, &["11 10 owns", "24 10 failed 3", "25 10 free", "end 25"]);
+    expect(&ops, &["11 10 owns", "24 10 failed 3", "25 10 free 14", "end 25"]);
 }
 
 #[test]
 fn owner_failed_1_in_the_repetition() {
     // The first symbol of the repetition is QQ and no contest any more.
     let ops = lone(&[run(16), heard(0xFF), heard(0x30), run(1)]);
-    expect(&ops, &["11 10 owns", "18 10 failed 1", "18 10 free", "end 19"]);
+    expect(&ops, &["11 10 owns", "18 10 failed 1", "18 10 free 7", "end 19"]);
 }
 
 #[test]
 fn owner_failed_4_on_syn() {
     let ops = lone(&[run(26)]);
-    expect(&ops, &["11 10 owns", "26 10 failed 4", "26 10 free", "end 26"]);
+    expect(&ops, &["11 10 owns", "26 10 failed 4", "26 10 free 15", "end 26"]);
     let ops = lone(&[run(18), heard(0xAA)]);
-    expect(&ops, &["11 10 owns", "19 10 failed 4", "19 10 free", "end 19"]);
+    expect(&ops, &["11 10 owns", "19 10 failed 4", "19 10 free 8", "end 19"]);
 }
 
 #[test]
 fn quiet_before_the_acknowledgement_is_skipped() {
     // 17 and 18 quiet; 19 decides.
     let ops = lone(&[run(18), heard(0x05), run(1)]);
-    expect(&ops, &["11 10 owns", "19 10 failed 2", "20 10 free", "end 20"]);
+    expect(&ops, &["11 10 owns", "19 10 failed 2", "20 10 free 9", "end 20"]);
 }
 
 #[test]
@@ -75,7 +75,7 @@ fn reader_acknowledges_only_once() {
     // after 17 to 25, in 26.
     let ops =
         [master(0x10), slave(0x08), queue(&[0x10, 0x08, 0x50, 0x02]), run(16), quiet(), run(9)];
-    expect(&ops, &["11 10 owns", "26 10 failed 4", "26 10 free", "end 26"]);
+    expect(&ops, &["11 10 owns", "26 10 failed 4", "26 10 free 15", "end 26"]);
 }
 
 #[test]
@@ -96,7 +96,7 @@ fn what_the_reader_sent_no_longer_counts() {
         "18 08 given 10 50 02 00",
         "21 08 taken",
         "21 10 answer 08 00",
-        "22 10 free",
+        "22 10 free 11",
         "end 22",
     ];
     expect(&ops, &lines);
@@ -120,7 +120,7 @@ fn repeated_part_is_taken() {
         "24 08 given 10 50 02 00",
         "27 08 taken",
         "27 10 answer 08 00",
-        "28 10 free",
+        "28 10 free 17",
         "end 28",
     ];
     expect(&ops, &lines);
@@ -130,7 +130,7 @@ fn repeated_part_is_taken() {
 fn part_to_a_master_gets_no_answer() {
     // 10 31 50 02 00 6E: slots 11 to 16.
     let ops = [master(0x31), master(0x10), queue(&[0x10, 0x31, 0x50, 0x02]), run(18)];
-    let lines = ["11 10 owns", "17 10 taken", "17 31 given 10 50 02 00", "18 10 free", "end 18"];
+    let lines = ["11 10 owns", "17 10 taken", "17 31 given 10 50 02 00", "18 10 free 7", "end 18"];
     expect(&ops, &lines);
 }
 
@@ -138,7 +138,7 @@ fn part_to_a_master_gets_no_answer() {
 fn released_whatever_is_heard() {
     // The SYN of slot 18 heard as 00 or quiet: free, and silent until SYN.
     let setup = [master(0x31), master(0x10), queue(&[0x10, 0x31, 0x50, 0x02])];
-    let lines = ["11 10 owns", "17 10 taken", "17 31 given 10 50 02 00", "18 10 free"];
+    let lines = ["11 10 owns", "17 10 taken", "17 31 given 10 50 02 00", "18 10 free 7"];
     let ops = [&setup[..], &[run(17), heard(0x00), queue(&[0x10, 8, 5, 2]), run(11)]].concat();
     // 19 to 27 quiet, 28 AUTO-SYN, 29 owns.
     expect(&ops, &[&lines[..], &["29 10 owns", "end 29"]].concat());
@@ -160,11 +160,11 @@ fn next_telegram_right_after_the_release() {
         "11 10 owns",
         "17 10 taken",
         "17 31 given 10 50 02 00",
-        "18 10 free",
+        "18 10 free 7",
         "19 10 owns",
         "25 10 taken",
         "25 31 given 10 50 02 00",
-        "26 10 free",
+        "26 10 free 7",
         "end 26",
     ];
     expect(&ops, &lines);
@@ -179,7 +179,7 @@ fn broadcast_with_owner() {
         "16 10 taken",
         "16 08 given 10 50 02 00",
         "16 30 given 10 50 02 00",
-        "17 10 free",
+        "17 10 free 6",
         "end 17",
     ];
     expect(&ops, &lines);
@@ -202,7 +202,7 @@ fn broadcast_that_loses_its_owner() {
     let lines = [
         "11 10 owns",
         "15 10 failed 1",
-        "15 10 free",
+        "15 10 free 4",
         "17 08 given 10 50 02 01 77",
         "17 30 given 10 50 02 01 77",
         "end 17",
@@ -216,7 +216,7 @@ fn target_disturbed_to_the_failed_owner() {
     // the rest of a sound part (10 15 50 02 00 62) moves nobody.
     let mut ops = lone(&[run(11), heard(0x15)]);
     ops.extend(all_heard(&[0x50, 0x02, 0x00, 0x62, 0x00]));
-    expect(&ops, &["11 10 owns", "12 10 failed 1", "12 10 free", "end 17"]);
+    expect(&ops, &["11 10 owns", "12 10 failed 1", "12 10 free 1", "end 17"]);
 }
 
 #[test]
@@ -229,7 +229,7 @@ fn part_with_pairs() {
         "19 08 given 10 50 02 01 AA",
         "22 08 taken",
         "22 10 answer 08 00",
-        "23 10 free",
+        "23 10 free 12",
         "end 23",
     ];
     expect(&ops, &lines);
