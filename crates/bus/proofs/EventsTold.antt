@@ -73,7 +73,7 @@ nobody-told (t ∷ l) p q =
     let f = nil-parts (those true (tells t)) (linesOf true l) q in
     next (untold t (e .0) (f .0)) (nobody-told l (e .1) (f .1))
 
-missing : (f : Found) → isFound f ≡ false → f ≡ Missing
+pub missing : (f : Found) → isFound f ≡ false → f ≡ Missing
 missing (At i) e = absurd (true≢false e)
 missing Missing e = refl
 

@@ -6,10 +6,19 @@ use Rattle.bus.specs.declared.find.Query.the-variants.{InTransfer}
 use Rattle.bus.specs.declared.time.Time.{Time}
 use Rattle.bus.specs.Find.{thereIs}
 
--- from owns to free the slots since the owns line, modulo 2^32: the slot number less the owns slot; outside a transfer 0
+-- the slot number less the slot of the latest owns line, modulo 2^32
+abbrev pub sinceOwns : Bus → ℕ
+sinceOwns b = (b .slot + (2 ^ 32 - b .began)) % 2 ^ 32
+
+-- from owns to free the slots since the owns line; outside a transfer 0
 unfoldable pub elapsed : Bus → ℕ
-elapsed b = cond (thereIs b InTransfer) ((b .slot + (2 ^ 32 - b .began)) % 2 ^ 32) 0
+elapsed b = cond (thereIs b InTransfer) (sinceOwns b) 0
 
 -- the slot number, and the elapsed slots
 unfoldable pub timeOf : Bus → Time
 timeOf b = record { slot = b .slot; elapsed = elapsed b }
+
+-- ---- no rule: the same for whoever shows it on free lines alone (proofs/Elapsed.antt)
+
+abbrev pub timeIfFree : Bus → Time
+timeIfFree b = record { slot = b .slot; elapsed = sinceOwns b }

@@ -5,7 +5,7 @@ ghost use Rattle.bus.specs.Told.{isOwns, isFree};
 ghost use Rattle.bus.specs.Find.{inTransfer};
 ghost use Rattle.bus.specs.Slot.{latest};
 ghost use Rattle.bus.specs.Strides.{orMeets};
-ghost use Rattle.bus.specs.Time.{elapsed, timeOf};
+ghost use Rattle.bus.specs.Time.{sinceOwns, elapsed, timeOf, timeIfFree};
 use crate::bus::Bus;
 use crate::find::Query;
 use station::phase::Told;
@@ -82,11 +82,17 @@ pub(crate) fn latest(owns: bool, slot: u32, began: u32) -> u32
 }
 
 impl Bus {
+    fn since_owns(self) -> u32
+        ensures { λ r. ⌜ r ≡ sinceOwns self ⌝ }
+    {
+        std::num::wrapping_sub_u32(self.slot, self.began)
+    }
+
     fn elapsed(self) -> u32
         ensures { λ r. ⌜ r ≡ elapsed self ⌝ }
     {
         if self.there_is(Query::InTransfer) {
-            std::num::wrapping_sub_u32(self.slot, self.began)
+            self.since_owns()
         } else {
             0
         }
@@ -98,6 +104,16 @@ impl Bus {
         Time {
             slot: self.slot,
             elapsed: self.elapsed(),
+        }
+    }
+
+    // A way to be fast, no rule: where a free line tells that the slot is inside a transfer, nobody is asked.
+    pub fn time_if_free(self) -> Time
+        ensures { λ r. ⌜ r ≡ timeIfFree self ⌝ }
+    {
+        Time {
+            slot: self.slot,
+            elapsed: self.since_owns(),
         }
     }
 }

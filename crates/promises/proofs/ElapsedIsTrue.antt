@@ -26,7 +26,7 @@ use Rattle.bus.specs.Events.{Line, line, tellings, events}
 use Rattle.bus.specs.Find.{inTransfer, meets, firstOf, thereIs}
 use Rattle.bus.specs.Reply.{withReplies}
 use Rattle.bus.specs.Slot.{spoken, turned, slotHeard, slotRun}
-use Rattle.bus.specs.Time.{elapsed, timeOf}
+use Rattle.bus.specs.Time.{sinceOwns, elapsed, timeOf}
 use Rattle.bus.specs.Told as bus
 use Rattle.bus.specs.declared.bus.Answer.{Answer}
 use Rattle.bus.specs.declared.bus.Bus.{Bus}
@@ -132,10 +132,6 @@ module _ (b : Bus) (h : Sound) where
 
 -- ---- the recount
 
--- the slots since the latest owns line of all, as the bus has them
-abbrev since : Bus → ℕ
-since b = (b .slot + (2 ^ 32 - b .began)) % 2 ^ 32
-
 not-owns : {t : Told} → NotOfOwnership t → bus.isOwns t ≡ false
 not-owns of-nothing = refl
 not-owns of-taken = refl
@@ -165,7 +161,7 @@ record Held (i n : ℕ) (b : Bus) : Type 0 where
   reached : Reachable b
   number : b .slot < 2 ^ 32
   begun : b .began < 2 ^ 32
-  held : i < attachedTo b → Holds b i → since b ≡ n % 2 ^ 32
+  held : i < attachedTo b → Holds b i → sinceOwns b ≡ n % 2 ^ 32
 
 one-later : (s c n : ℕ) → (s + c) % 2 ^ 32 ≡ n % 2 ^ 32 → ((s + 1) % 2 ^ 32 + c) % 2 ^ 32 ≡ (n + 1) % 2 ^ 32
 one-later s c n e =
@@ -192,14 +188,14 @@ module _ {i n : ℕ} (b : Bus) (h : Sound) (r : Reachable (slotHeard b h)) (w : 
       go false = w .begun
 
   -- it is told owns: this is the slot
-  won-now : i < attachedTo b → turnAt next i .told ≡ Owns → since next ≡ 0
+  won-now : i < attachedTo b → turnAt next i .told ≡ Owns → sinceOwns next ≡ 0
   won-now l e =
       let there = asked-one ToldOwns next (whole-slot b h (reachable-shared (w .reached) .array)) i (rw (attached-slot b h) l) (ap bus.isOwns e) in
       let began : next .began ≡ next .slot = began-slot b h ∙ ap (λ (t : Bool). cond t (next .slot) (b .began)) there in
       ap (λ (k : ℕ). (next .slot + (2 ^ 32 - k)) % 2 ^ 32) began ∙ just-begun (next .slot) numbered
 
   -- it owned the wire as the slot began: one slot more
-  held-on : i < attachedTo b → owner (stationAt b i .phase) ≡ true → since next ≡ (n + 1) % 2 ^ 32
+  held-on : i < attachedTo b → owner (stationAt b i .phase) ≡ true → sinceOwns next ≡ (n + 1) % 2 ^ 32
   unfolding slotHeard
   held-on l o =
       let began : next .began ≡ b .began = began-slot b h ∙ ap (λ (t : Bool). cond t (next .slot) (b .began)) (nobody-wins b h (w .reached) i l o) in
@@ -209,7 +205,7 @@ module _ {i n : ℕ} (b : Bus) (h : Sound) (r : Reachable (slotHeard b h)) (w : 
   slot-held : Held i (cond (says isOwns (tells (turnAt next i))) 0 (n + 1)) next
   slot-held = record { reached = r; number = numbered; begun = begun-small; held = λ l k. go (rw (attached-slot b h) at l) k }
     where
-      go : i < attachedTo b → Holds next i → since next ≡ cond (says isOwns (tells (turnAt next i))) 0 (n + 1) % 2 ^ 32
+      go : i < attachedTo b → Holds next i → sinceOwns next ≡ cond (says isOwns (tells (turnAt next i))) 0 (n + 1) % 2 ^ 32
       go l k =
           let shared = reachable-shared (w .reached) in
           let s = stationAt b i in
@@ -218,7 +214,7 @@ module _ {i n : ℕ} (b : Bus) (h : Sound) (r : Reachable (slotHeard b h)) (w : 
           subst (λ (t : Turn). Ownership (owner (s .phase)) (t .told) (owner (t .station .phase))) (sym seat)
           (rw (ready-ownership s) at (ownership (ready s) h (ready-possible s (shared .each i l .possible)))) in
           let free = ⊎-elim (λ e. inl e) (λ e. inr (sym (free-line (turnAt next i)) ∙ e)) k in
-          counts (since next) n own (won-now l) (held-on l) free
+          counts (sinceOwns next) n own (won-now l) (held-on l) free
           ∙ ap (λ (t : Bool). cond t 0 (n + 1) % 2 ^ 32) (sym (owns-line (turnAt next i)))
 
 -- ---- a call that is no slot
@@ -308,7 +304,7 @@ time-slot : (b : Bus) → timeOf b .slot ≡ b .slot
 unfolding timeOf
 time-slot b = refl
 
-time-inside : (b : Bus) → thereIs b InTransfer ≡ true → timeOf b .elapsed ≡ since b
+time-inside : (b : Bus) → thereIs b InTransfer ≡ true → timeOf b .elapsed ≡ sinceOwns b
 unfolding timeOf elapsed
 time-inside b e = rw e
 

@@ -144,7 +144,7 @@ fn fields(p: Place, b: Bus, s: &[u8], out: &mut [u8; ROOM], at: usize) -> Filled
             }
         }
         let n = bus.attached();
-        let time = bus.time();
+        let time = bus.time_if_free();
         let mut told = false;
         for i in 0..n {
             let t = bus.turns[i];

@@ -13,7 +13,7 @@ use Rattle.laws.specs.First.{firstFrom, isFound}
 use Rattle.laws.proofs.Lists.{length-mapped}
 use Rattle.station.specs.declared.station.Turn.{Turn}
 use Rattle.bus.specs.Bus.{seats, attachedTo}
-use Rattle.bus.specs.Events.{linesOf, tellings, events}
+use Rattle.bus.specs.Events.{linesOf}
 use Rattle.bus.specs.Find.{meets, thereIs}
 use Rattle.bus.specs.declared.bus.Answer.{Answer}
 use Rattle.bus.specs.declared.find.Query.the-variants.{WasTold}
@@ -29,7 +29,7 @@ use Rattle.scenario.specs.Fill.{fieldsFilled}
 use Rattle.scenario.specs.Lines.{textOf, slotText, textAt, passText}
 use Rattle.scenario.specs.Pen.{pen, penned}
 use Rattle.scenario.proofs.Filling.{FillsTo, fills-first, fills-full, fills-next, fills-over, fills-came, came-nearer}
-use Rattle.scenario.proofs.Texts.{text-append, pass-next}
+use Rattle.scenario.proofs.Texts.{pass-next, both-passes}
 use Rattle.scenario.proofs.Written.{both, finished, nothing, piece}
 use Rattle.scenario.proofs.fill.fields.Statement.{statement}
 use Rattle.scenario.proofs.fill.fields.Tie as tie
@@ -189,8 +189,8 @@ ran-seats c =
     (λ (match, task3, known-told3, slot-heard, e, f). rw (e, slot-heard .ensures) (slot-seats (l .loop .bus) _ ∙ l .loop .inv .2))
     (c .match .came)
 
-time-requires : tie.Need-time-requires Inv-loop2 μ-loop2 Inv-loop3 μ-loop3 Inv-loop μ-loop
-time-requires c κs = search needs
+time-if-free-requires : tie.Need-time-if-free-requires Inv-loop2 μ-loop2 Inv-loop3 μ-loop3 Inv-loop μ-loop
+time-if-free-requires c κs = search needs
 
 loop2-holds : tie.Need-loop2-holds Inv-loop2 μ-loop2 Inv-loop3 μ-loop3 Inv-loop μ-loop
 loop2-holds c =
@@ -220,7 +220,7 @@ loop2-again c =
     let a = c .before .before .before .before .before in
     let b = a .before .before .before .match .bus in
     let n = a .before .before .attached .result in
-    let time = a .before .time .result in
+    let time = a .before .time-if-free .result in
     let i = a .loop2 .i in
     let h : n ≤ length (b .turns) = omega (arith, a .loop2 .inv .1, a .loop2 .inv .3) in
     let l : i < length (b .turns) = omega (arith, h, c .before .before .before .before .loop2-test .taken) in (
@@ -260,7 +260,7 @@ loop3-again c =
     let a = c .before .before .before .before in
     let b = a .before .before .before .before .before .match .bus in
     let n = a .before .before .before .before .attached .result in
-    let time = a .before .before .before .time .result in
+    let time = a .before .before .before .time-if-free .result in
     let j = a .loop3 .j in
     let h : n ≤ length (b .turns) = omega (arith, a .loop3 .inv .1, a .loop3 .inv .3) in (
       omega arith,
@@ -297,14 +297,13 @@ loop-less-3 c =
     rw (c .came .ensures) (came-nearer (l .loop .bus) (l .loop .place) _ (m .match .bus) _ (m .match .left) _ (l .loop .inv .0) (ran-next m) (told-is (c .before .before)))
 
 loop-again-3 : tie.Need-loop-again-3 Inv-loop2 μ-loop2 Inv-loop3 μ-loop3 Inv-loop μ-loop
-unfolding slotText tellings events
 loop-again-3 c =
     let a = c .before .before in
     let f = a .before .before in
     let m = f .before .before .before in
     let b = m .match .bus in
     let n = f .before .before .attached .result in
-    let time = f .before .time .result in
+    let time = f .before .time-if-free .result in
     let o = m .before .before in
     let l = o .before in
     let first =
@@ -312,7 +311,8 @@ loop-again-3 c =
     let last =
     finished (pen (a .loop3 .out) (a .loop3 .used)) _ (all-written time true (b .turns) n (a .loop3 .j) (c .before .loop3-test .left)) (a .loop3 .inv .4) in
     let all : pen (a .loop3 .out) (a .loop3 .used) ≡ penned (pen (l .loop .out) (l .loop .used)) (slotText b) =
-    rw (← f .before .before .attached .ensures, ← f .before .time .ensures, text-append) (both _ _ _ first last) in
+    both _ _ _ first last
+    ∙ ap (λ (v : List ℕ). penned (pen (l .loop .out) (l .loop .used)) v) (both-passes b (f .before .time-if-free .ensures) (f .before .before .attached .ensures)) in
     (l .loop .inv .0, rw (c .came .ensures) (fills-came b _ (m .match .left) _ (l .loop .inv .0) (l .loop .inv .1) (o .loop-test .taken) (ran-next m) (told-is a) all), ran-seats m)
 
 printed-requires-2 : tie.Need-printed-requires-2 Inv-loop2 μ-loop2 Inv-loop3 μ-loop3 Inv-loop μ-loop
@@ -356,7 +356,7 @@ fields-spec =
     end-line-requires
     returns
     attached-requires
-    time-requires
+    time-if-free-requires
     loop2-holds
     mul-t
     element-copy-out-t
