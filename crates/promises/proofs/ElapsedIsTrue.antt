@@ -1,7 +1,7 @@
 -- An event's elapsed count is the number of slots run since its owner's owns line, modulo 2^32, while somebody owns the wire or has
 -- left it in this very slot, else 0 (02, E4). Assumes nothing.
 use mathlib.Core.Path.{_≡_, refl, sym, ap, subst, _∙_}
-use mathlib.Core.Bool.{Bool, true, false, cond, true≢false, false≢true}
+use mathlib.Core.Bool.{Bool, true, false, cond, false≢true}
 use mathlib.Core.List.{List, [], _∷_, map, List·Memᴰ, List·Memᴰ·not-nil, List·Memᴰ·cases-cons}
 use mathlib.Core.Logic.{_⊎_, inl, inr, ⊎-elim}
 use Prim.Native.Nat.{ℕ, _+_, _-_, _%_, _^_, _<_}
@@ -11,7 +11,6 @@ use Rattle.station.specs.Events.{Event, eventsAs, tells}
 use Rattle.station.specs.Phase.{owner}
 use Rattle.station.specs.Station.{fresh, ready}
 use Rattle.station.specs.Hear.{hears}
-use Rattle.station.specs.Turn.{withOutbox}
 use Rattle.station.specs.declared.phase.Phase.{Phase}
 use Rattle.station.specs.declared.phase.Sound.{Sound}
 use Rattle.station.specs.declared.phase.Told.{Told}
@@ -24,8 +23,7 @@ use Rattle.bus.specs.Attach.{newcomer}
 use Rattle.bus.specs.Bus.{poweredOn, attachedTo, turnAt, withTurn}
 use Rattle.bus.specs.Events.{Line, line, tellings, events}
 use Rattle.bus.specs.Find.{inTransfer, meets, firstOf, thereIs}
-use Rattle.bus.specs.Reply.{withReplies}
-use Rattle.bus.specs.Slot.{spoken, turned, slotHeard, slotRun}
+use Rattle.bus.specs.Slot.{spoken, slotHeard, slotRun}
 use Rattle.bus.specs.Time.{sinceOwns, elapsed, timeOf}
 use Rattle.bus.specs.Told as bus
 use Rattle.bus.specs.declared.bus.Answer.{Answer}
@@ -35,7 +33,7 @@ use Rattle.bus.specs.declared.time.Time.{Time}
 use Rattle.promises.specs.Calls.{Call, attach, queue, reply, slot, heard, afterCall, afterCalls, ByteCall, ByteCalls, Use, afterUses, ByteUses, callsIn, Reachable}
 use Rattle.promises.specs.Elapsed.{isOwns, isFree, says, Holds, countedOn, recount, TrueTime}
 use Rattle.promises.specs.Fit.{stationAt}
-use Rattle.promises.proofs.OneOwner.{FirstHeard, nothing, first, Follows, ready-follows, Shared, reachable-shared}
+use Rattle.promises.proofs.OneOwner.{FirstHeard, nothing, first, ready-follows, Shared, reachable-shared}
 use Rattle.promises.proofs.SlotsCounted.{slots-counted}
 use Rattle.promises.proofs.Shared.Asked.{asked-one, asked-each}
 use Rattle.promises.proofs.Shared.AtPhase.{bidder-admitted}
