@@ -1,2 +1,5 @@
 pub mod Bytes
 pub mod Feed
+pub mod OneRemainder
+pub mod Remainder
+pub mod Xor

@@ -1,24 +1,50 @@
--- `crc::step` meets its contract: one computed test over the whole table says that each entry is its place times x^8.
--- Assumes nothing.
+-- `crc::step` meets its contract: the steps that are left, from what is reduced so far, give the whole. Assumes nothing.
 use borrow.Author.Needs.{needs}
-use mathlib.Core.Path.{ap}
-use Prim.Native.Nat.{ℕ}
-use lib.Bits.{bitXor}
-use Rattle.laws.proofs.Computed.{table-holds}
-use Rattle.crc.specs.Crc.{crcStep, timesXⁿ, timesX}
+use mathlib.Core.Path.{_≡_, _∙_, refl}
+use Prim.Native.Nat.{ℕ, zero, suc, _-_, _≤_, _<_}
+use native.Mathlib.Nat.{not-suc-le-zero}
+use native.Mathlib.Numerals.{unary-clauses}
+use native.Mathlib.Omega.{arith}
+use Rattle.crc.specs.Crc.{timesX, timesXⁿ, crcStep}
 use Rattle.crc.proofs.step.Statement.{statement}
 use Rattle.crc.proofs.step.Tie as tie
-use Rattle.crc.proofs.step.Reads as reads
-use Rattle.crc.proofs.step.Lts as lts
 
-array-read-result : tie.Need-array-read-result
-array-read-result c = search needs
+abbrev Inv-loop : tie.InvT-loop
+Inv-loop register symbol reduced₀ steps₀ reduced steps = timesXⁿ steps reduced ≡ timesXⁿ steps₀ reduced₀
 
-returns : tie.Need-returns
-unfolding crcStep timesXⁿ timesX
-returns c =
-    let table = lts.m6 reads.Pre reads.Post (c .args) (c .blocks) .1 .1 .1 .0 in
-    ap (λ (x : ℕ). bitXor x (c .args .symbol)) (table-holds (timesXⁿ 8) table tt (c .args .register) (c .fits .register .fits))
+abbrev μ-loop : tie.MeasureT-loop
+μ-loop register symbol reduced₀ steps₀ reduced steps = steps
+
+one-more : (n r : ℕ) → 0 < n → timesXⁿ (n - 1) (timesX r) ≡ timesXⁿ n r
+unfolding timesXⁿ
+one-more zero r h = absurd (not-suc-le-zero h)
+one-more (suc n) r h = simp unary-clauses
+
+none-left : (n r : ℕ) → n ≤ 0 → r ≡ timesXⁿ n r
+unfolding timesXⁿ
+none-left zero r h = refl
+none-left (suc n) r h = absurd (not-suc-le-zero h)
+
+loop-holds : tie.Need-loop-holds Inv-loop μ-loop
+loop-holds c = refl
+
+times-x-requires : tie.Need-times-x-requires Inv-loop μ-loop
+times-x-requires c κs = search needs
+
+sub-steps : tie.Need-sub-steps Inv-loop μ-loop
+sub-steps c = omega arith
+
+loop-less : tie.Need-loop-less Inv-loop μ-loop
+loop-less c = omega arith
+
+loop-again : tie.Need-loop-again Inv-loop μ-loop
+loop-again c =
+    let b = c .before .before in
+    rw (c .times-x .ensures) (one-more _ _ (c .before .loop-test .taken) ∙ b .loop .inv)
+
+returns : tie.Need-returns Inv-loop μ-loop
+unfolding crcStep
+returns c = rw (none-left _ _ (c .loop-test .left) ∙ c .before .loop .inv)
 
 pub step-spec : {M : Type 1} → statement M
-step-spec = tie.close (tie.spec array-read-result returns)
+step-spec = tie.close (tie.spec Inv-loop μ-loop loop-holds times-x-requires sub-steps loop-less loop-again returns)
