@@ -38,9 +38,7 @@ loop-less : tie.Need-loop-less Inv-loop μ-loop
 loop-less c = omega arith
 
 loop-again : tie.Need-loop-again Inv-loop μ-loop
-loop-again c =
-    let b = c .before .before in
-    rw (c .times-x .ensures) (one-more _ _ (c .before .loop-test .taken) ∙ b .loop .inv)
+loop-again c = rw (c .times-x .ensures) (one-more _ _ (c .before .loop-test .taken) ∙ c .before .before .loop .inv)
 
 returns : tie.Need-returns Inv-loop μ-loop
 unfolding crcStep
