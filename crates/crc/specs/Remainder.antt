@@ -12,12 +12,13 @@ unfoldable pub joined : ℕ → List ℕ → ℕ
 joined high [] = high
 joined high (s ∷ ss) = joined (high * 256 + s) ss
 
--- the polynomial times a quotient, which is given by its bits, that of 1 first
+-- the polynomial times a quotient, which is given by its bits, the lowest power first
 unfoldable pub multiple : List Bool → ℕ
 multiple [] = 0
 multiple (bit ∷ quotient) = bitXor (multiple quotient * 2) (cond bit polynomial 0)
 
--- divided by the polynomial, the whole leaves the rest: with a multiple of the polynomial the rest is the whole, and it has no x^8
+-- divided by the polynomial, the whole leaves the rest: a multiple of the polynomial and the rest make the whole, and the rest
+-- has neither x^8 nor a higher power
 pub record Leaves (whole rest : ℕ) : Type 0 where
   pub quotient : List Bool
   pub back : bitXor (multiple quotient) rest ≡ whole
