@@ -13,16 +13,17 @@ use lib.Seq.{take-suc-set}
 use Rattle.crc.specs.Crc.{crcStep, crcOf}
 use Rattle.crc.proofs.Feed.{of-snoc}
 use Rattle.address.specs.Master.{isMaster}
-use Rattle.wire.specs.Pair.{expandOne, expand, undo}
+use Rattle.wire.specs.Pair.{expandOne, expand, wrongPair, undo}
 use Rattle.wire.specs.Form.{covered, bytesOf}
 use Rattle.wire.specs.Reader.{withQq, withZz, withPb, withSb, withNn, withByte, ended, more, onward, placeAfter, readQq, readNn, readByte, dataAs, readData, crcAs, readCrc, readHead, readAt}
-use Rattle.wire.specs.Reading.{Sixteen, Usable, NoSyn, none, next, before}
+use Rattle.wire.specs.Reading.{Sixteen, Usable, BrokenAt, NoSyn, none, next, before}
 use Rattle.wire.specs.Symbol.{isEscape, isCount}
 use Rattle.wire.specs.declared.symbol.Kind.{Kind}
 use Rattle.wire.specs.declared.part.Part.{Part}
 use Rattle.wire.specs.declared.part.Part.the-variants.{MasterPart}
 use Rattle.wire.specs.declared.pair.Undone.{Undone}
-use Rattle.wire.specs.declared.pair.Undone.the-variants.{Byte, Opens, Broken}
+use Rattle.wire.specs.declared.pair.Undone.the-variants.{Byte, Opens, Ends, Broken}
+use Rattle.wire.specs.declared.pair.WrongPair.{WrongPair}
 use Rattle.wire.specs.declared.part.Telegram.{Telegram}
 use Rattle.wire.specs.declared.reader.Place.{Place}
 use Rattle.wire.specs.declared.reader.Place.the-variants.{Zz, Pb, Sb, Nn, Data, Crc}
@@ -31,7 +32,7 @@ use Rattle.wire.specs.declared.reader.Outcome.{Outcome}
 use Rattle.wire.specs.declared.reader.Outcome.the-variants.{More, Cut, NoMaster, Unusable, TooLong, BrokenPair, Whole}
 use Rattle.wire.specs.declared.reader.Step.{Step}
 use Rattle.wire.proofs.Expand.{expand-snoc}
-use Rattle.wire.proofs.Pairs.{pending, undo-byte, undo-opens}
+use Rattle.wire.proofs.Pairs.{pending, undo-byte, undo-opens, undo-broken}
 use Rattle.wire.proofs.Symbols.{no-syn-append}
 use Rattle.wire.proofs.SoFar.{heard, Counted, Upto, at-qq, at-zz, at-pb, at-sb, at-nn, at-data, at-crc, SoFar, IsWhole}
 
@@ -43,7 +44,7 @@ AfterAs Cut w c p ys = Unit {0}
 AfterAs NoMaster w c p ys = Unit {0}
 AfterAs Unusable w c p ys = Unit {0}
 AfterAs TooLong w c p ys = Unit {0}
-AfterAs BrokenPair w c p ys = Unit {0}
+AfterAs (BrokenPair x) w c p ys = BrokenAt (before w p) ys x
 
 abbrev pub After : Part → List ℕ → Step → Type 0
 After w ys r = AfterAs (r .outcome) w (r .cursor) (r .part) ys
@@ -111,8 +112,26 @@ module _ (at register nn : ℕ) (p : Telegram) (xs : List ℕ) (s : ℕ) (counts
   joined ys zs opened e q =
       snoc (ys ++ pending opened) e ∙ append-assoc ys (pending opened) (s ∷ []) ∙ ap (λ (l : List ℕ). ys ++ l) q
 
+  -- the symbol breaks a pair: the A9 before it is the last that was read
+  broken : (w : Part) (read : ℕ) (opened : Bool) (x : WrongPair) → Counted w nn p → read ≤ nn → xs ≡ heard w p read ++ pending opened
+      → undo opened at s ≡ Broken x → BrokenAt (before w p) (xs ++ (s ∷ [])) x
+  broken w read opened x k l e u =
+      let b = undo-broken opened at s x .0 u in
+      let hs = heard w p read in
+      let last : xs ≡ hs ++ (0xA9 ∷ []) = e ∙ ap (λ (o : Bool). hs ++ pending o) (b .opened) in
+      let same : s ≡ x .symbol = ap (λ (y : WrongPair). y .symbol) (sym (b .says)) in
+      record {
+        nn = p .load .nn;
+        bytes = take read (p .load .bytes);
+        heard = snoc (hs ++ (0xA9 ∷ [])) last ∙ append-assoc hs (0xA9 ∷ []) (s ∷ []) ∙ ap (λ (y : ℕ). hs ++ (0xA9 ∷ y ∷ [])) same;
+        position = omega (arith, ap (λ (y : WrongPair). y .position) (b .says), counts, ap length last, length-append hs (0xA9 ∷ []));
+        wrong = rw same at (b .wrong);
+        most = omega (arith, k .same, k .most);
+        few = omega (arith, length-take read (p .load .bytes), k .same);
+      }
+
   -- a symbol of the data
-  data-step : (w : Part) (read : ℕ) (opened : Bool) (u : Undone) → undo opened s ≡ u → Counted w nn p → read < nn
+  data-step : (w : Part) (read : ℕ) (opened : Bool) (u : Undone) → undo opened at s ≡ u → Counted w nn p → read < nn
       → xs ≡ heard w p read ++ pending opened → register ≡ crcOf xs
       → After w (xs ++ (s ∷ [])) (dataAs u (here (Data read) opened) p read s)
   unfolding readByte more ended onward
@@ -121,18 +140,19 @@ module _ (at register nn : ℕ) (p : Telegram) (xs : List ℕ) (s : ℕ) (counts
       let k′ : Counted w nn p′ = record { fit = k .fit; same = k .same; most = k .most } in
       let h : read < length (p .load .bytes) = omega (arith, k .most) in
       let y : xs ++ (s ∷ []) ≡ heard w p′ (read + 1) =
-      joined (heard w p read) (expandOne b) opened x (undo-byte opened s b e) ∙ sym (heard-more w p read b h) in
+      joined (heard w p read) (expandOne b) opened x (undo-byte opened at s b e) ∙ sym (heard-more w p read b h) in
       after-if w (xs ++ (s ∷ [])) (ltb read 16) _ _
       (λ t. moved w (placeAfter (read + 1) nn) false (crcStep register s) nn p′ (length-set (p .load .bytes) read b ∙ array)
       (placed w (crcStep register s) nn (read + 1) p′ (xs ++ (s ∷ [])) k′ (omega arith) y (fed r)))
       (λ t. tt)
   data-step w read opened Opens e k l x r =
       moved w (Data read) true (crcStep register s) nn p array
-      (at-data k l (joined (heard w p read) (pending true) opened x (undo-opens opened s e)) (fed r))
-  data-step w read opened Broken e k l x r = tt
+      (at-data k l (joined (heard w p read) (pending true) opened x (undo-opens opened at s e)) (fed r))
+  data-step w read opened Ends e k l x r = tt
+  data-step w read opened (Broken y) e k l x r = broken w read opened y k (omega arith) x e
 
   -- a symbol of the CRC
-  crc-step : (w : Part) (opened : Bool) (u : Undone) → undo opened s ≡ u → Counted w nn p
+  crc-step : (w : Part) (opened : Bool) (u : Undone) → undo opened at s ≡ u → Counted w nn p
       → xs ≡ heard w p nn ++ pending opened → register ≡ crcOf (heard w p nn)
       → After w (xs ++ (s ∷ [])) (crcAs u (here Crc opened) p)
   unfolding more ended
@@ -140,7 +160,7 @@ module _ (at register nn : ℕ) (p : Telegram) (xs : List ℕ) (s : ℕ) (counts
       let all = heard-all w nn p k array in
       record {
         check = b;
-        symbols = joined (heard w p nn) (expandOne b) opened x (undo-byte opened s b e) ∙ ap (λ (l : List ℕ). l ++ expandOne b) all;
+        symbols = joined (heard w p nn) (expandOne b) opened x (undo-byte opened at s b e) ∙ ap (λ (l : List ℕ). l ++ expandOne b) all;
         judged = ap (λ (j : ℕ). eqb b j) (r ∙ ap crcOf all);
         fit = k .fit;
         counted = omega (arith, k .same, k .most);
@@ -148,8 +168,9 @@ module _ (at register nn : ℕ) (p : Telegram) (xs : List ℕ) (s : ℕ) (counts
         clear = all-clear;
       }
   crc-step w opened Opens e k x r =
-      moved w Crc true register nn p array (at-crc k (joined (heard w p nn) (pending true) opened x (undo-opens opened s e)) r)
-  crc-step w opened Broken e k x r = tt
+      moved w Crc true register nn p array (at-crc k (joined (heard w p nn) (pending true) opened x (undo-opens opened at s e)) r)
+  crc-step w opened Ends e k x r = tt
+  crc-step w opened (Broken y) e k x r = broken w nn opened y k (omega arith) x e
 
   -- a symbol that is neither A9 nor AA
   usable : s ≢ 0xA9 → Usable s
@@ -184,5 +205,5 @@ module _ (at register nn : ℕ) (p : Telegram) (xs : List ℕ) (s : ℕ) (counts
       (placed w (crcStep register s) s 0 (withNn p s) (xs ++ (s ∷ [])) (record { fit = m; same = refl; most = c t }) (omega arith)
       (nn-heard w e) (fed r)))
       (λ t. tt)
-  place-step w place opened k n c (at-data {read = read} q l e r) = data-step w read opened (undo opened s) refl q l e r
-  place-step w place opened k n c (at-crc q e r) = crc-step w opened (undo opened s) refl q e r
+  place-step w place opened k n c (at-data {read = read} q l e r) = data-step w read opened (undo opened at s) refl q l e r
+  place-step w place opened k n c (at-crc q e r) = crc-step w opened (undo opened at s) refl q e r

@@ -1,3 +1,4 @@
+pub mod BrokenPairs
 pub mod Buffer
 pub mod ByPlace
 pub mod Endings

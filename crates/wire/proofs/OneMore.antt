@@ -10,15 +10,16 @@ use Rattle.crc.specs.Crc.{crcOf}
 use Rattle.wire.specs.Pair.{expandOne}
 use Rattle.wire.specs.Form.{covered, form, bytesOf}
 use Rattle.wire.specs.Reader.{ended, readPlace, readAt, readAs, readOne}
-use Rattle.wire.specs.Reading.{before, formOf}
+use Rattle.wire.specs.Reading.{BrokenAt, before, formOf}
 use Rattle.wire.specs.Symbol.{isEscape, isCount}
 use Rattle.wire.specs.declared.symbol.Kind.{Kind}
 use Rattle.wire.specs.declared.symbol.Kind.the-variants.{Escape, Count, Plain}
+use Rattle.wire.specs.declared.pair.WrongPair.{WrongPair}
 use Rattle.wire.specs.declared.part.Part.{Part}
 use Rattle.wire.specs.declared.part.Telegram.{Telegram}
 use Rattle.wire.specs.declared.reader.Cursor.{Cursor}
 use Rattle.wire.specs.declared.reader.Outcome.{Outcome}
-use Rattle.wire.specs.declared.reader.Outcome.the-variants.{More, Whole}
+use Rattle.wire.specs.declared.reader.Outcome.the-variants.{More, BrokenPair, Whole}
 use Rattle.wire.proofs.SymbolKind.{by-kind}
 use Rattle.wire.proofs.SoFar.{SoFar, IsWhole, short}
 use Rattle.wire.proofs.ByPlace.{AfterAs, After, place-step}
@@ -50,6 +51,13 @@ step-more {w} {c} {p} {xs} h s e =
 pub step-whole : {w : Part} {c : Cursor} {p : Telegram} {xs : List ℕ} {right : Bool} → SoFar w c p xs → (s : ℕ)
     → readOne c p s .outcome ≡ Whole right → IsWhole w (readOne c p s .part) (xs ++ (s ∷ [])) right
 step-whole {w} {c} {p} {xs} h s e =
+    let r = readOne c p s in
+    subst (λ (o : Outcome). AfterAs o w (r .cursor) (r .part) (xs ++ (s ∷ []))) e (step h s)
+
+-- BrokenPair: the symbols read end in that pair
+pub step-broken : {w : Part} {c : Cursor} {p : Telegram} {xs : List ℕ} {x : WrongPair} → SoFar w c p xs → (s : ℕ)
+    → readOne c p s .outcome ≡ BrokenPair x → BrokenAt (before w (readOne c p s .part)) (xs ++ (s ∷ [])) x
+step-broken {w} {c} {p} {xs} h s e =
     let r = readOne c p s in
     subst (λ (o : Outcome). AfterAs o w (r .cursor) (r .part) (xs ++ (s ∷ []))) e (step h s)
 

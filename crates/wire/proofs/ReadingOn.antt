@@ -18,7 +18,7 @@ more-or-not Cut = inr (λ e. clash (cc))
 more-or-not NoMaster = inr (λ e. clash (cc))
 more-or-not Unusable = inr (λ e. clash (cc))
 more-or-not TooLong = inr (λ e. clash (cc))
-more-or-not BrokenPair = inr (λ e. clash (cc))
+more-or-not (BrokenPair x) = inr (λ e. clash (cc))
 more-or-not (Whole right) = inr (λ e. clash (cc))
 
 stopped : (o : Outcome) (on stop : Read) → o ≢ More → goOn o on stop ≡ stop
@@ -27,7 +27,7 @@ stopped Cut on stop n = refl
 stopped NoMaster on stop n = refl
 stopped Unusable on stop n = refl
 stopped TooLong on stop n = refl
-stopped BrokenPair on stop n = refl
+stopped (BrokenPair x) on stop n = refl
 stopped (Whole right) on stop n = refl
 
 module _ (c : Cursor) (p : Telegram) (s : ℕ) (ss : List ℕ) where

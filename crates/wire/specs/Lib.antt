@@ -1,3 +1,4 @@
+pub mod BrokenPairs
 pub mod Examples
 pub mod Form
 pub mod Load

@@ -11,7 +11,7 @@ use Rattle.wire.specs.Pair.{undo}
 use Rattle.wire.specs.declared.symbol.Kind.{Kind}
 use Rattle.wire.specs.declared.symbol.Kind.the-variants.{Syn, Escape, Count, Plain}
 use Rattle.wire.specs.declared.pair.Undone.{Undone}
-use Rattle.wire.specs.declared.pair.Undone.the-variants.{Byte, Opens, Broken}
+use Rattle.wire.specs.declared.pair.Undone.the-variants.{Byte, Opens, Ends, Broken}
 use Rattle.wire.specs.declared.part.Load.{Load}
 use Rattle.wire.specs.declared.part.Part.{Part}
 use Rattle.wire.specs.declared.part.Part.the-variants.{MasterPart, AnswerPart}
@@ -107,23 +107,26 @@ readByte c p read s b =
     (more (onward c s (placeAfter (read + 1) (c .nn)) false) (withByte p read b))
     (ended c p TooLong)
 
--- data: a byte, the first of a pair, or the wrong second
+-- data: a byte, the first of a pair, or the wrong second, which says which pair was broken. (AA, which ends the reading, is told
+-- apart before a symbol is undone.)
 abbrev pub dataAs : Undone → Cursor → Telegram → ℕ → ℕ → Step
 dataAs (Byte b) c p read s = readByte c p read s b
 dataAs Opens c p read s = more (onward c s (Data read) true) p
-dataAs Broken c p read s = ended c p BrokenPair
+dataAs Ends c p read s = ended c p Cut
+dataAs (Broken x) c p read s = ended c p (BrokenPair x)
 
 unfoldable pub readData : Cursor → Telegram → ℕ → ℕ → Step
-readData c p read s = dataAs (undo (c .opened) s) c p read s
+readData c p read s = dataAs (undo (c .opened) (c .at) s) c p read s
 
 -- CRC, likewise: the part is whole, and the CRC matches or is wrong
 abbrev pub crcAs : Undone → Cursor → Telegram → Step
 crcAs (Byte b) c p = ended c p (Whole (eqb b (c .register)))
 crcAs Opens c p = more (crcOpened c) p
-crcAs Broken c p = ended c p BrokenPair
+crcAs Ends c p = ended c p Cut
+crcAs (Broken x) c p = ended c p (BrokenPair x)
 
 unfoldable pub readCrc : Cursor → Telegram → ℕ → Step
-readCrc c p s = crcAs (undo (c .opened) s) c p
+readCrc c p s = crcAs (undo (c .opened) (c .at) s) c p
 
 -- QQ, ZZ, PB, SB, NN, data, CRC; the symbol's kind says whether it is A9 and whether it is a count
 abbrev pub readAt : Place → Cursor → Telegram → ℕ → Kind → Step

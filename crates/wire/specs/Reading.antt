@@ -1,14 +1,16 @@
 -- Reading symbols one after the other until the reading ends (01, "Reading"), and the words for what is read.
 -- Assumes nothing.
-use Prim.Native.Nat.{ℕ}
+use Prim.Native.Nat.{ℕ, _≤_}
 use mathlib.Core.Path.{_≡_}
 use mathlib.Core.Logic.{_≢_}
 use mathlib.Core.Bool.{true}
-use mathlib.Core.List.{List, [], _∷_}
+use mathlib.Core.List.{List, [], _∷_, _++_}
 use lib.ListN.{length}
 use Rattle.address.specs.Master.{isMaster}
 use Rattle.wire.specs.Form.{form, headOf, bytesOf}
+use Rattle.wire.specs.Pair.{expand}
 use Rattle.wire.specs.Reader.{withLoad, more, readOne}
+use Rattle.wire.specs.declared.pair.WrongPair.{WrongPair}
 use Rattle.wire.specs.declared.part.Load.{Load}
 use Rattle.wire.specs.declared.part.Part.{Part}
 use Rattle.wire.specs.declared.part.Part.the-variants.{MasterPart, AnswerPart}
@@ -32,7 +34,7 @@ goOn Cut on stop = stop
 goOn NoMaster on stop = stop
 goOn Unusable on stop = stop
 goOn TooLong on stop = stop
-goOn BrokenPair on stop = stop
+goOn (BrokenPair x) on stop = stop
 goOn (Whole b) on stop = stop
 
 -- the symbols one by one, until one of them ends the reading or there are no more
@@ -86,6 +88,24 @@ pub record ReadBack (t : Telegram) (left : List ℕ) (r : Read) : Type 0 where
   pub outcome : r .step .outcome ≡ Whole true
   pub same : SameMessage (r .step .part) t
   pub rest : r .rest ≡ left
+
+-- what breaks a pair behind its A9: none of 00, 01 and AA
+pub record Wrong (s : ℕ) : Type 0 where
+  pub not-00 : s ≢ 0x00
+  pub not-01 : s ≢ 0x01
+  pub not-syn : s ≢ 0xAA
+
+-- which pair was broken (02, E6): these symbols of a part, from its first on, end in an A9 and the wrong symbol behind it, both as
+-- they are said; all before the A9 are undone without a fault: what stands before NN, NN, and the expansion of some data bytes
+pub record BrokenAt (head symbols : List ℕ) (x : WrongPair) : Type 0 where
+  pub nn : ℕ
+  pub bytes : List ℕ
+  pub heard : symbols ≡ (head ++ (nn ∷ expand bytes)) ++ (0xA9 ∷ x .symbol ∷ [])
+  pub position : x .position ≡ length (head ++ (nn ∷ expand bytes))
+  pub wrong : Wrong (x .symbol)
+  -- NN counts them: the pair is a data byte's, or behind the last one the CRC's
+  pub most : nn ≤ 16
+  pub few : length bytes ≤ nn
 
 -- no symbol of a run is AA
 pub data NoSyn : List ℕ → Type 0 where

@@ -4,6 +4,7 @@ ghost use mathlib.Core.Bool.{true, false};
 ghost use Rattle.wire.specs.Reader.{placeAfter, startAt, startOf, ended, onward, more, readQq, readHead, readNn, readByte, readData, readCrc, readPlace, readOne};
 use crate::pair;
 use crate::pair::Undone;
+use crate::pair::WrongPair;
 use crate::part::Load;
 use crate::part::Part;
 use crate::part::Telegram;
@@ -43,8 +44,8 @@ pub enum Outcome {
     Unusable,
     // NN is above 16.
     TooLong,
-    // A9 in data or CRC with neither 00 nor 01 behind it.
-    BrokenPair,
+    // A9 in data or CRC with neither 00, 01 nor AA behind it: where it stands, and that symbol.
+    BrokenPair(WrongPair),
     // The part is whole, and its CRC matches or is wrong.
     Whole(bool),
 }
@@ -212,11 +213,11 @@ impl Cursor {
     fn read_data(self, part: Telegram, read: u8, s: u8) -> Step
         ensures { λ r. ⌜ r ≡ readData self part read s ⌝ }
     {
-        let opened = self.opened;
-        match pair::undo(opened, s) {
+        match pair::undo(self.opened, self.at, s) {
             Undone::Byte(b) => self.read_byte(part, read, s, b),
             Undone::Opens => self.onward(s, Place::Data(read), true).more(part),
-            Undone::Broken => self.ended(part, Outcome::BrokenPair),
+            Undone::Ends => self.ended(part, Outcome::Cut),
+            Undone::Broken(pair) => self.ended(part, Outcome::BrokenPair(pair)),
         }
     }
 
@@ -239,8 +240,7 @@ impl Cursor {
     fn read_crc(self, part: Telegram, s: u8) -> Step
         ensures { λ r. ⌜ r ≡ readCrc self part s ⌝ }
     {
-        let opened = self.opened;
-        match pair::undo(opened, s) {
+        match pair::undo(self.opened, self.at, s) {
             Undone::Byte(b) => self.ended(part, Outcome::Whole(b == self.register)),
             Undone::Opens => {
                 let at = std::num::wrapping_add_u8(self.at, 1);
@@ -250,7 +250,8 @@ impl Cursor {
                     ..self
                 }.more(part)
             }
-            Undone::Broken => self.ended(part, Outcome::BrokenPair),
+            Undone::Ends => self.ended(part, Outcome::Cut),
+            Undone::Broken(pair) => self.ended(part, Outcome::BrokenPair(pair)),
         }
     }
 }

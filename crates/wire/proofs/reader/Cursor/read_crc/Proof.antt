@@ -28,6 +28,12 @@ enum-told-2 c = search needs
 ended-requires-2 : tie.Need-ended-requires-2
 ended-requires-2 c κs = search needs
 
+enum-known-pair : tie.Need-enum-known-pair
+enum-known-pair c = search needs
+
+ended-requires-3 : tie.Need-ended-requires-3
+ended-requires-3 c κs = search needs
+
 returns : tie.Need-returns
 unfolding readCrc
 returns c =
@@ -56,6 +62,15 @@ returns-3 c =
       ← c .before .before .before .undo .ensures,
     )
 
+returns-4 : tie.Need-returns-4
+unfolding readCrc
+returns-4 c =
+    simp (
+      c .ended3 .ensures,
+      c .before .before .pair .given .1,
+      ← c .before .before .before .before .undo .ensures,
+    )
+
 pub read-crc-spec : {M : Type 1} → statement M
 read-crc-spec =
     tie.close
@@ -68,6 +83,9 @@ read-crc-spec =
     more-requires
     enum-told-2
     ended-requires-2
+    enum-known-pair
+    ended-requires-3
     returns
     returns-2
-    returns-3)
+    returns-3
+    returns-4)

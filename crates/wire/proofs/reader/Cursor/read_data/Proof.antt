@@ -28,6 +28,12 @@ enum-told-2 c = search needs
 ended-requires : tie.Need-ended-requires
 ended-requires c κs = search needs
 
+enum-known-pair : tie.Need-enum-known-pair
+enum-known-pair c = search needs
+
+ended-requires-2 : tie.Need-ended-requires-2
+ended-requires-2 c κs = search needs
+
 returns : tie.Need-returns
 unfolding readData
 returns c =
@@ -56,6 +62,15 @@ returns-3 c =
       ← c .before .before .before .undo .ensures,
     )
 
+returns-4 : tie.Need-returns-4
+unfolding readData
+returns-4 c =
+    simp (
+      c .ended2 .ensures,
+      c .before .before .pair .given .1,
+      ← c .before .before .before .before .undo .ensures,
+    )
+
 pub read-data-spec : {M : Type 1} → statement M
 read-data-spec =
     tie.close
@@ -68,6 +83,9 @@ read-data-spec =
     more-requires
     enum-told-2
     ended-requires
+    enum-known-pair
+    ended-requires-2
     returns
     returns-2
-    returns-3)
+    returns-3
+    returns-4)
