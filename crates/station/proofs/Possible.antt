@@ -9,7 +9,7 @@ use Rattle.wire.specs.Pair.{undo}
 use Rattle.wire.specs.Reader.{masterStart, answerStart, ended, more, onward, placeAfter, readNn, readByte, dataAs, readData, crcAs, readCrc, readAt, readPlace, readAs, readOne, startOf}
 use Rattle.wire.specs.Symbol.{kindOf, isCount}
 use Rattle.wire.specs.declared.pair.Undone.{Undone}
-use Rattle.wire.specs.declared.pair.Undone.the-variants.{Byte, Opens, Broken}
+use Rattle.wire.specs.declared.pair.Undone.the-variants.{Byte, Opens, Ends, Broken}
 use Rattle.wire.specs.declared.part.Telegram.{Telegram}
 use Rattle.wire.specs.declared.reader.Cursor.{Cursor}
 use Rattle.wire.specs.declared.reader.Outcome.{Outcome}
@@ -95,19 +95,21 @@ module _ (c : Cursor) (t : Telegram) (b : ℕ) (w : InAnswer (c .place)) where
   unfolding readByte more onward
   data-stays i (Byte v) = either (ltb i 16) (record { place = behind (i + 1) (c .nn) }) (ended-stays TooLong)
   data-stays i Opens = record { place = at-data }
-  data-stays i Broken = ended-stays BrokenPair
+  data-stays i Ends = ended-stays Cut
+  data-stays i (Broken x) = ended-stays (BrokenPair x)
 
   crc-stays : (u : Undone) → Stays (crcAs u c t)
   unfolding more
   crc-stays (Byte v) = ended-stays (Whole (eqb v (c .register)))
   crc-stays Opens = record { place = w }
-  crc-stays Broken = ended-stays BrokenPair
+  crc-stays Ends = ended-stays Cut
+  crc-stays (Broken x) = ended-stays (BrokenPair x)
 
   place-stays : (k : Kind) {l : Place} → InAnswer l → Stays (readAt l c t b k)
   unfolding readData readCrc
   place-stays k at-nn = nn-stays (isCount k)
-  place-stays k (at-data {i}) = data-stays i (undo (c .opened) b)
-  place-stays k at-crc = crc-stays (undo (c .opened) b)
+  place-stays k (at-data {i}) = data-stays i (undo (c .opened) (c .at) b)
+  place-stays k at-crc = crc-stays (undo (c .opened) (c .at) b)
 
   kind-stays : (k : Kind) → Stays (readAs k c t b)
   unfolding readPlace

@@ -12,6 +12,7 @@ use Rattle.wire.specs.declared.reader.Outcome.the-variants.{More, Cut, NoMaster
 use Rattle.wire.specs.declared.reader.Place.{Place}
 use Rattle.wire.specs.declared.reader.Place.the-variants.{Qq, Zz, Pb, Sb, Nn, Data, Crc}
 use Rattle.station.specs.declared.outbox.Outbox.{Outbox}
+use Rattle.wire.specs.declared.pair.WrongPair.{WrongPair}
 use Rattle.wire.specs.declared.part.Part.{Part}
 use Rattle.wire.specs.declared.part.Part.the-variants.{MasterPart, AnswerPart}
 use Rattle.station.specs.declared.phase.Attempt.{Attempt}
@@ -51,7 +52,7 @@ outboxAfter Answered o = o
 pub data SendsAa : Failure → Type 0 where
   after-2 : SendsAa WrongAck
   after-3 : SendsAa TwiceNak
-  after-5 : SendsAa PairBroken
+  after-5 : {x : WrongPair} → SendsAa (PairBroken x)
   after-5-long : SendsAa OverLong
 
 pub owner-sends-aa : (x : Station) {f : Failure} → SendsAa f → ownerFails f x ≡ goes x Releasing (Failed f)
@@ -152,11 +153,11 @@ module _ {bid : Bool} {part : Telegram} where
     outcome-turned : (p : Part) (o : Outcome) → readOne c part b .outcome ≡ o → x .part ≡ readOne c part b .part
         → Turned bid part x (Reading c p a) (Symbol b) (readsAs o x (readOne c part b .cursor) p a)
     outcome-turned p More e r = on-turned p e
-    outcome-turned p Cut e r = vain-turned p after-5
-    outcome-turned p NoMaster e r = vain-turned p after-5
-    outcome-turned p Unusable e r = vain-turned p after-5
+    outcome-turned p Cut e r = vain-turned p after-5-long
+    outcome-turned p NoMaster e r = vain-turned p after-5-long
+    outcome-turned p Unusable e r = vain-turned p after-5-long
     outcome-turned p TooLong e r = vain-turned p after-5-long
-    outcome-turned p BrokenPair e r = vain-turned p after-5
+    outcome-turned p (BrokenPair y) e r = vain-turned p after-5
     outcome-turned p (Whole m) e r = whole-turned p m e r
 
 module _ {bid : Bool} where

@@ -46,7 +46,7 @@ ownerFails Disturbed s = record { station = left s; told = FailedFree Disturbed 
 ownerFails WrongAck s = goes s Releasing (Failed WrongAck)
 ownerFails TwiceNak s = goes s Releasing (Failed TwiceNak)
 ownerFails SynHeard s = record { station = left s; told = FailedFree SynHeard }
-ownerFails PairBroken s = goes s Releasing (Failed PairBroken)
+ownerFails (PairBroken x) s = goes s Releasing (Failed (PairBroken x))
 ownerFails OverLong s = goes s Releasing (Failed OverLong)
 
 -- the sender of a master part is the owner, of an answer a slave, which falls silent
@@ -111,16 +111,17 @@ readOnAt Crc s on = goes s on Silence
 unfoldable pub readOn : Station → Cursor → Part → Attempt → Turn
 readOn s c p a = readOnAt (c .place) s (Reading c p a)
 
--- by the reader's outcome: an NN above 16 and a broken pair get no acknowledgement (02, E3), and in an answer they are failed 5. (An
--- owner comes to none of the last three: an answer has neither QQ nor ZZ, PB, SB, and AA is told apart before it is read.)
+-- by the reader's outcome: an NN above 16 and a broken pair get no acknowledgement (02, E3), and in an answer they are failed 5, which
+-- for a broken pair says which it was (02, E6). (An owner comes to none of the last three: an answer has neither QQ nor ZZ, PB, SB,
+-- and AA is told apart before it is read.)
 abbrev pub readsAs : Outcome → Station → Cursor → Part → Attempt → Turn
 readsAs More s c p a = readOn s c p a
 readsAs (Whole matched) s c p a = whole s p a matched
 readsAs TooLong s c p a = readerFails p OverLong s
-readsAs BrokenPair s c p a = readerFails p PairBroken s
-readsAs NoMaster s c p a = readerFails p PairBroken s
-readsAs Unusable s c p a = readerFails p PairBroken s
-readsAs Cut s c p a = readerFails p PairBroken s
+readsAs (BrokenPair x) s c p a = readerFails p (PairBroken x) s
+readsAs NoMaster s c p a = readerFails p OverLong s
+readsAs Unusable s c p a = readerFails p OverLong s
+readsAs Cut s c p a = readerFails p OverLong s
 
 abbrev pub readsStep : Step → Station → Part → Attempt → Turn
 readsStep t s p a = readsAs (t .outcome) (withPart s (t .part)) (t .cursor) p a

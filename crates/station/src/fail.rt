@@ -50,7 +50,7 @@ impl Station {
                 station: self.leave(),
                 told: Told::FailedFree(Failure::SynHeard),
             },
-            Failure::PairBroken => self.then_syn(Failure::PairBroken),
+            Failure::PairBroken(pair) => self.then_syn(Failure::PairBroken(pair)),
             Failure::OverLong => self.then_syn(Failure::OverLong),
         }
     }

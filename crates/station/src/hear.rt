@@ -164,11 +164,11 @@ impl Station {
         let outcome = step.outcome;
         let next = match outcome {
             Outcome::More => Next::read_on(step.cursor, part, attempt, own, read.zz),
-            Outcome::Cut => Next::lost(part, Failure::PairBroken),
-            Outcome::NoMaster => Next::lost(part, Failure::PairBroken),
-            Outcome::Unusable => Next::lost(part, Failure::PairBroken),
+            Outcome::Cut => Next::lost(part, Failure::OverLong),
+            Outcome::NoMaster => Next::lost(part, Failure::OverLong),
+            Outcome::Unusable => Next::lost(part, Failure::OverLong),
             Outcome::TooLong => Next::lost(part, Failure::OverLong),
-            Outcome::BrokenPair => Next::lost(part, Failure::PairBroken),
+            Outcome::BrokenPair(pair) => Next::lost(part, Failure::PairBroken(pair)),
             Outcome::Whole(matched) => Next::whole(part, attempt, matched, read.zz),
         };
         let since = self.since;

@@ -2,6 +2,7 @@
 ghost use mathlib.Core.Path.{_≡_};
 ghost use Rattle.station.specs.Events.{numberOf};
 ghost use Rattle.station.specs.Phase.{owner};
+use wire::pair::WrongPair;
 use wire::part::Part;
 use wire::reader::Cursor;
 
@@ -67,9 +68,9 @@ pub enum Failure {
     TwiceNak,
     // 4: AA.
     SynHeard,
-    // 5: a broken pair in an answer.
-    PairBroken,
-    // 5 as well: an NN above 16 in an answer.
+    // 5: a broken pair in an answer, and which it was.
+    PairBroken(WrongPair),
+    // 5 as well, with nothing more to say: an NN above 16 in an answer.
     OverLong,
 }
 
@@ -83,7 +84,7 @@ impl Failure {
             Failure::WrongAck => 2,
             Failure::TwiceNak => 3,
             Failure::SynHeard => 4,
-            Failure::PairBroken => 5,
+            Failure::PairBroken(_) => 5,
             Failure::OverLong => 5,
         }
     }

@@ -1,5 +1,4 @@
 -- `station::station::Station::fail_owner` meets its contract. Assumes nothing.
-use Rattle.station.specs.Table.{ownerFails}
 use borrow.Author.Needs.{needs}
 use Rattle.station.proofs.station.Station.fail_owner.Statement.{statement}
 use Rattle.station.proofs.station.Station.fail_owner.Tie as tie
@@ -28,20 +27,19 @@ enum-told-4 c = search needs
 leave-requires-2 : tie.Need-leave-requires-2
 leave-requires-2 c κs = search needs
 
-enum-told-5 : tie.Need-enum-told-5
-enum-told-5 c = search needs
+enum-known-failure : tie.Need-enum-known-failure
+enum-known-failure c = search needs
 
 then-syn-requires-3 : tie.Need-then-syn-requires-3
 then-syn-requires-3 c κs = search needs
 
-enum-told-6 : tie.Need-enum-told-6
-enum-told-6 c = search needs
+enum-told-5 : tie.Need-enum-told-5
+enum-told-5 c = search needs
 
 then-syn-requires-4 : tie.Need-then-syn-requires-4
 then-syn-requires-4 c κs = search needs
 
 returns : tie.Need-returns
-unfolding ownerFails
 returns c =
     simp (
       c .leave .ensures,
@@ -49,7 +47,6 @@ returns c =
     )
 
 returns-2 : tie.Need-returns-2
-unfolding ownerFails
 returns-2 c =
     simp (
       c .then-syn .ensures,
@@ -57,7 +54,6 @@ returns-2 c =
     )
 
 returns-3 : tie.Need-returns-3
-unfolding ownerFails
 returns-3 c =
     simp (
       c .then-syn2 .ensures,
@@ -65,7 +61,6 @@ returns-3 c =
     )
 
 returns-4 : tie.Need-returns-4
-unfolding ownerFails
 returns-4 c =
     simp (
       c .leave2 .ensures,
@@ -73,19 +68,17 @@ returns-4 c =
     )
 
 returns-5 : tie.Need-returns-5
-unfolding ownerFails
 returns-5 c =
     simp (
       c .then-syn3 .ensures,
-      c .before .enum-told5 .given .1,
+      c .before .before .failure .given .1,
     )
 
 returns-6 : tie.Need-returns-6
-unfolding ownerFails
 returns-6 c =
     simp (
       c .then-syn4 .ensures,
-      c .before .enum-told6 .given .1,
+      c .before .enum-told5 .given .1,
     )
 
 pub fail-owner-spec : {M : Type 1} → statement M
@@ -100,9 +93,9 @@ fail-owner-spec =
     then-syn-requires-2
     enum-told-4
     leave-requires-2
-    enum-told-5
+    enum-known-failure
     then-syn-requires-3
-    enum-told-6
+    enum-told-5
     then-syn-requires-4
     returns
     returns-2

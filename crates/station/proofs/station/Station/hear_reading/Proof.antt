@@ -70,14 +70,14 @@ enum-told-5 c = search needs
 lost-requires-4 : tie.Need-lost-requires-4
 lost-requires-4 c κs = search needs
 
-enum-told-6 : tie.Need-enum-told-6
-enum-told-6 c = search needs
+enum-known-outcome : tie.Need-enum-known-outcome
+enum-known-outcome c = search needs
 
 lost-requires-5 : tie.Need-lost-requires-5
 lost-requires-5 c κs = search needs
 
-enum-known-outcome : tie.Need-enum-known-outcome
-enum-known-outcome c = search needs
+enum-known-outcome-2 : tie.Need-enum-known-outcome-2
+enum-known-outcome-2 c = search needs
 
 whole-requires : tie.Need-whole-requires
 whole-requires c κs = search needs
@@ -158,7 +158,7 @@ goes-on c u z o =
     (⊎-elim
     (λ (match, told, lost, e). goes-as u _ _ _ _ _ _ _ (told .given .1) e (lost .ensures u refl))
     (⊎-elim
-    (λ (match, told, lost, e). goes-as u _ _ _ _ _ _ _ (told .given .1) e (lost .ensures u refl))
+    (λ (match, outcome, known, lost, e). goes-as u _ _ _ _ _ _ _ (outcome .given .1) e (lost .ensures u refl))
     (λ (match, outcome, known, whole, e). goes-as u _ _ _ _ _ _ _ (outcome .given .1) e (whole .ensures u z)))))))
     (c .match .came)
 
@@ -203,9 +203,9 @@ hear-reading-spec =
     lost-requires-3
     enum-told-5
     lost-requires-4
-    enum-told-6
-    lost-requires-5
     enum-known-outcome
+    lost-requires-5
+    enum-known-outcome-2
     whole-requires
     next-requires
     returns-2)
