@@ -10,7 +10,7 @@ use lib.Seq.{append-snoc}
 use Rattle.laws.proofs.FirstIs.{Every, none, next}
 use Rattle.wire.specs.Form.{bytesOf}
 use Rattle.wire.specs.declared.part.Telegram.{Telegram}
-use Rattle.station.specs.Events.{Word, Event, numberOf, event, freeEvent, eventsAs, tells}
+use Rattle.station.specs.Events.{Word, Event, numberOf, failedEvent, freeEvent, eventsAs, tells}
 use Rattle.station.specs.Events as word
 use Rattle.station.specs.declared.phase.Failure.{Failure}
 use Rattle.station.specs.declared.phase.Failure.the-variants.{Disturbed, WrongAck, TwiceNak, SynHeard, PairBroken, OverLong}
@@ -139,7 +139,7 @@ number-small Disturbed = omega arith
 number-small WrongAck = omega arith
 number-small TwiceNak = omega arith
 number-small SynHeard = omega arith
-number-small PairBroken = omega arith
+number-small (PairBroken x) = omega arith
 number-small OverLong = omega arith
 
 -- the events of a station are of bytes
@@ -173,7 +173,7 @@ turn-bytes last t h = by last (t .told)
     by true Free = none
     by false Free = one _ refl tt
     by true (FailedFree f) = none
-    by false (FailedFree f) = every-append (one (event a word.failed (numberOf f ∷ [])) refl (number-small f)) (one (freeEvent a p) refl tt)
+    by false (FailedFree f) = every-append (one (failedEvent a f) refl (number-small f)) (one (freeEvent a p) refl tt)
     by true Given = one _ refl (h .part .qq, (h .part .pb, (h .part .sb, (nn, data-bytes))))
     by false Given = none
     by true Answered = one _ refl (h .part .zz, (nn, data-bytes))

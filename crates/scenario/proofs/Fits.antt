@@ -11,7 +11,7 @@ use lib.ListN.{length, drop, length-append, length-take}
 use lib.Seq.{set-at, append-snoc}
 use Rattle.wire.specs.Form.{bytesOf}
 use Rattle.wire.specs.declared.part.Telegram.{Telegram}
-use Rattle.station.specs.Events.{owns, taken, failed, given, answer, Event, numberOf, event, freeEvent, eventsAs, tells}
+use Rattle.station.specs.Events.{owns, taken, given, answer, Event, numberOf, event, failedEvent, freeEvent, eventsAs, tells}
 use Rattle.station.specs.declared.phase.Told.{Told}
 use Rattle.station.specs.declared.phase.Told.the-variants.{Silence, Owns, Taken, Failed, Free, FailedFree, Given, Answered}
 use Rattle.station.specs.declared.station.Turn.{Turn}
@@ -113,12 +113,12 @@ station-most time Owns a t h =
 station-most time Taken a t h =
     let e = event a taken [] in omega (arith, none-most time, more-most time e [], line-most time e, hexes-length [])
 station-most time (Failed f) a t h =
-    let e = event a failed (numberOf f ∷ []) in
+    let e = failedEvent a f in
     omega (arith, none-most time, more-most time e [], line-most time e, decimal-most (numberOf f))
 station-most time Free a t h =
     let e = freeEvent a t in omega (arith, none-most time, more-most time e [], line-most time e, decimal-most (time .elapsed))
 station-most time (FailedFree f) a t h =
-    let e = event a failed (numberOf f ∷ []) in
+    let e = failedEvent a f in
     let g = freeEvent a t in
     omega (
       arith,

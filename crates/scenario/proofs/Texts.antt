@@ -7,7 +7,7 @@ use lib.ListN.{length, getD, take, drop}
 use Rattle.wire.specs.Form.{bytesOf}
 use Rattle.wire.specs.declared.part.Telegram.{Telegram}
 use Rattle.wire.proofs.Filling.{counted-length}
-use Rattle.station.specs.Events.{owns, taken, failed, free, given, answer, Event, event, freeEvent, numberOf, eventsAs, tells}
+use Rattle.station.specs.Events.{owns, taken, failed, free, given, answer, Event, event, failedEvent, freeEvent, numberOf, eventsAs, tells}
 use Rattle.station.specs.declared.phase.Failure.{Failure}
 use Rattle.station.specs.declared.phase.Told.{Told}
 use Rattle.station.specs.declared.phase.Told.the-variants.{Silence, Owns, Taken, Failed, Free, FailedFree, Given, Answered}
@@ -45,12 +45,12 @@ pub free-text : (time : Time) (a : ℕ) (t : Telegram) → textAt time (freeEven
 unfolding textOf lineText countedText
 free-text time a t = simp append-nil
 
-pub failed-text : (time : Time) (a : ℕ) (f : Failure) → textAt time (event a failed (numberOf f ∷ []) ∷ []) ≡ countedText (time .slot) a (wordText failed) (numberOf f)
+pub failed-text : (time : Time) (a : ℕ) (f : Failure) → textAt time (failedEvent a f ∷ []) ≡ countedText (time .slot) a (wordText failed) (numberOf f)
 unfolding textOf lineText countedText
 failed-text time a f = append-nil _
 
 pub failed-free-text : (time : Time) (a : ℕ) (f : Failure) (t : Telegram)
-    → textAt time (event a failed (numberOf f ∷ []) ∷ freeEvent a t ∷ []) ≡ countedText (time .slot) a (wordText failed) (numberOf f) ++ countedText (time .slot) a (wordText free) (time .elapsed)
+    → textAt time (failedEvent a f ∷ freeEvent a t ∷ []) ≡ countedText (time .slot) a (wordText failed) (numberOf f) ++ countedText (time .slot) a (wordText free) (time .elapsed)
 unfolding textOf lineText countedText
 failed-free-text time a f t = simp append-nil
 

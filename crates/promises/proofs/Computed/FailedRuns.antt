@@ -1,7 +1,8 @@
 -- A slot for each way to fail, 1 to 5, at the owner and, where 01 has it, at the slave that answers (01, "Sending", "Reading",
 -- "Acknowledgement"). Assumes nothing.
 use mathlib.Core.Path.{_≡_, refl}
-use mathlib.Core.Bool.{true}
+use Prim.Native.Nat.{ℕ}
+use mathlib.Core.Bool.{true, false}
 use mathlib.Core.List.{List, [], _∷_, _++_, map}
 use Rattle.station.specs.declared.phase.Failure.the-variants.{Disturbed, WrongAck, TwiceNak, SynHeard, PairBroken, OverLong}
 use Rattle.station.specs.declared.phase.Sound.the-variants.{Quiet, Symbol}
@@ -18,6 +19,10 @@ pub record Failing : Type 0 where
 
 abbrev row : List Call → List Told → Failing
 row cs ts = record { calls = cs; told = ts }
+
+-- failed 5, by the pair at this place with this symbol behind its A9
+abbrev broken : ℕ → ℕ → Told
+broken p x = Failed (PairBroken (record { position = p; symbol = x }))
 
 -- master 10 asks 08, which answers; AA was heard, 10's part is out, and the next slot has the 00
 abbrev partOut : List Call
@@ -50,9 +55,18 @@ table =
     ∷ row (answerOut ++ symbols (0xAA ∷ [])) (FailedFree SynHeard ∷ Failed SynHeard ∷ [])
     ∷ row (unanswered ++ symbols (0x01 ∷ 0xAA ∷ [])) (FailedFree SynHeard ∷ [])
     ∷ row (unanswered ++ symbols (0x01 ∷ 0xA9 ∷ 0xAA ∷ [])) (FailedFree SynHeard ∷ [])
-    -- 5: the owner, by a broken pair in the data, in the CRC
-    ∷ row (unanswered ++ symbols (0x01 ∷ 0xA9 ∷ 0x05 ∷ [])) (Failed PairBroken ∷ [])
-    ∷ row (unanswered ++ symbols (0x00 ∷ 0xA9 ∷ 0xFF ∷ [])) (Failed PairBroken ∷ [])
+    -- 5: the owner, by a broken pair in the data, in the CRC, and which it was
+    ∷ row (unanswered ++ symbols (0x01 ∷ 0xA9 ∷ 0x05 ∷ [])) (broken 1 0x05 ∷ [])
+    ∷ row (unanswered ++ symbols (0x00 ∷ 0xA9 ∷ 0xFF ∷ [])) (broken 1 0xFF ∷ [])
+    -- the last of two data bytes; behind another pair; A9 A9; quiet does not count
+    ∷ row (unanswered ++ symbols (0x02 ∷ 0x64 ∷ 0xA9 ∷ 0x05 ∷ [])) (broken 2 0x05 ∷ [])
+    ∷ row (unanswered ++ symbols (0x02 ∷ 0xA9 ∷ 0x01 ∷ 0xA9 ∷ 0x05 ∷ [])) (broken 3 0x05 ∷ [])
+    ∷ row (unanswered ++ symbols (0x01 ∷ 0xA9 ∷ 0xA9 ∷ [])) (broken 1 0xA9 ∷ [])
+    ∷ row (unanswered ++ symbols (0x01 ∷ 0x64 ∷ []) ++ (heard Quiet ∷ []) ++ symbols (0xA9 ∷ []) ++ (heard Quiet ∷ []) ++ symbols (0x02 ∷ [])) (broken 2 0x02 ∷ [])
+    -- in the answer that is read again it counts from that one's first symbol
+    ∷ row (unanswered ++ symbols (0x01 ∷ 0x64 ∷ 0x55 ∷ 0xFF ∷ 0x01 ∷ 0xA9 ∷ 0x05 ∷ [])) (broken 1 0x05 ∷ [])
+    -- in a master part nobody is told: 08 falls silent
+    ∷ row (attach 0x08 false ∷ heard (Symbol 0xAA) ∷ symbols (0x10 ∷ 0x08 ∷ 0x50 ∷ 0x02 ∷ 0x01 ∷ 0xA9 ∷ 0x05 ∷ [])) (Silence ∷ [])
     -- 5: the owner, by an NN above 16, at once; in the answer that is read again
     ∷ row (unanswered ++ symbols (0x11 ∷ [])) (Failed OverLong ∷ [])
     ∷ row (unanswered ++ symbols (0xFF ∷ [])) (Failed OverLong ∷ [])

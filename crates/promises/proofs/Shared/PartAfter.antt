@@ -86,7 +86,7 @@ module _ (x : Station) where
   owner-keeps WrongAck = going _ _
   owner-keeps TwiceNak = going _ _
   owner-keeps SynHeard = leaving _
-  owner-keeps PairBroken = going _ _
+  owner-keeps (PairBroken y) = going _ _
   owner-keeps OverLong = going _ _
 
   sender-keeps : (p : Part) (f : Failure) → Keeps (x .part) (senderFails p f x)
@@ -189,11 +189,11 @@ module _ (x : Station) where
 
   outcome-reads : (o : Outcome) (c : Cursor) (p : Part) (a : Attempt) → Reads (x .part) (readsAs o x c p a)
   outcome-reads More c p a = readOn-reads c p a
-  outcome-reads Cut c p a = vain-reads p after-5
-  outcome-reads NoMaster c p a = vain-reads p after-5
-  outcome-reads Unusable c p a = vain-reads p after-5
+  outcome-reads Cut c p a = vain-reads p after-5-long
+  outcome-reads NoMaster c p a = vain-reads p after-5-long
+  outcome-reads Unusable c p a = vain-reads p after-5-long
   outcome-reads TooLong c p a = vain-reads p after-5-long
-  outcome-reads BrokenPair c p a = vain-reads p after-5
+  outcome-reads (BrokenPair y) c p a = vain-reads p after-5
   outcome-reads (Whole m) c p a = whole-reads p a m
 
 reads-one : (x : Station) (b : ℕ) (c : Cursor) (p : Part) (a : Attempt) → Reads (readOne c (x .part) b .part) (reads x b c p a)
