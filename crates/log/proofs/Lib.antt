@@ -1,4 +1,5 @@
 pub mod DiaryReadsBack
+pub mod EachTold
 pub mod Formed
 pub mod Going
 pub mod Holds

@@ -7,17 +7,20 @@ use native.Mathlib.Omega.{arith}
 use lib.ListN.{length, getD, take, drop, length-append, length-take, drop-of-length-le}
 use Rattle.laws.proofs.Lists.{left-of-first}
 use Rattle.wire.specs.Form.{bytesOf, countOf}
+use Rattle.wire.specs.declared.pair.WrongPair.{WrongPair}
 use Rattle.wire.specs.declared.part.Load.{Load}
 use Rattle.wire.specs.declared.part.Telegram.{Telegram}
 use Rattle.wire.proofs.Filling.{counted-length}
-use Rattle.station.specs.Events.{owns, taken, failed, free, Event, event, freeEvent, tells}
+use Rattle.station.specs.Events.{owns, taken, failed, free, Event, event, failedEvent, freeEvent, numberOf, pairOf, tells}
+use Rattle.station.specs.declared.phase.Failure.{Failure}
+use Rattle.station.specs.declared.phase.Failure.the-variants.{PairBroken}
 use Rattle.station.specs.declared.station.Turn.{Turn}
 use Rattle.bus.specs.Bus.{attachedTo, attachedTurns}
 use Rattle.bus.specs.Events.{those, linesOf, tellings, line, events}
 use Rattle.bus.specs.Time.{timeOf}
 use Rattle.bus.specs.declared.bus.Bus.{Bus}
 use Rattle.bus.specs.declared.time.Time.{Time}
-use Rattle.log.specs.Record.{tagOf, fourBytes, othersOf, valueOf, recordOf, headOf}
+use Rattle.log.specs.Record.{tagOf, fourBytes, pairBytes, othersOf, valueOf, recordOf, headOf}
 use Rattle.log.specs.Ring.{Ring, ring, roomFor, pushed}
 use Rattle.log.specs.Note.{noted, notedAll, recordsOf, slotRecords, begun, written, recordsAt, passRecords}
 use Rattle.log.proofs.Formed.{length-value, length-record}
@@ -62,12 +65,13 @@ pub free-noted : (d : Ring) (time : Time) (a : ℕ) (t : Telegram)
 free-noted d time a t = one-noted d time (freeEvent a t)
 
 -- two events
-pub two-noted : (d : Ring) (time : Time) (a n : ℕ) (t : Telegram) {p q : Ring} → p ≡ written d (tagOf failed) (time .slot) a (n ∷ [])
+pub two-noted : (d : Ring) (time : Time) (a : ℕ) (n : Failure) (t : Telegram) {p q : Ring}
+    → p ≡ written d (tagOf failed) (time .slot) a (numberOf n ∷ pairBytes (pairOf n))
     → q ≡ written p (tagOf free) (time .slot) a (fourBytes (time .elapsed))
-    → q ≡ notedAll d (recordsAt time (event a failed (n ∷ []) ∷ freeEvent a t ∷ []))
+    → q ≡ notedAll d (recordsAt time (failedEvent a n ∷ freeEvent a t ∷ []))
 two-noted d time a n t {p} {q} e f =
-    both-noted d (recordsAt time (event a failed (n ∷ []) ∷ [])) (recordsAt time (freeEvent a t ∷ [])) (e ∙ one-noted d time (event a failed (n ∷ []))) (f ∙ free-noted p time a t)
-    ∙ ap (λ (v : List (List ℕ)). notedAll d v) (sym (records-append time (event a failed (n ∷ []) ∷ []) (freeEvent a t ∷ [])))
+    both-noted d (recordsAt time (failedEvent a n ∷ [])) (recordsAt time (freeEvent a t ∷ [])) (e ∙ one-noted d time (failedEvent a n)) (f ∙ free-noted p time a t)
+    ∙ ap (λ (v : List (List ℕ)). notedAll d v) (sym (records-append time (failedEvent a n ∷ []) (freeEvent a t ∷ [])))
 
 -- one station of the first n
 pub pass-next : (time : Time) (last : Bool) (l : List Turn) (n i : ℕ) (d : Turn) → n ≤ length l → i < n
@@ -108,6 +112,15 @@ slot-noted b time n d t h e f =
 -- bytes behind others
 pub behind : {p q r : Ring} (xs ys : List ℕ) → p ≡ q → r ≡ pushed p xs → xs ≡ ys → r ≡ pushed q ys
 behind {p} {q} xs ys e f g = f ∙ ap (λ (v : Ring). pushed v xs) e ∙ ap (λ (v : List ℕ). pushed q v) g
+
+-- the number of a failure, and the two of a broken pair
+pub pair-written : (d : Ring) (slot a : ℕ) (x : WrongPair) {f : Failure} {n : ℕ} {p q r s : Ring} → f ≡ PairBroken x → n ≡ numberOf f → p ≡ begun d (tagOf failed) 3 slot a
+    → q ≡ pushed p (n ∷ []) → r ≡ pushed q (x .position ∷ []) → s ≡ pushed r (x .symbol ∷ []) → s ≡ written d (tagOf failed) slot a (numberOf f ∷ pairBytes (pairOf f))
+unfolding written
+pair-written d slot a x {n = n} {p = p} e number begin one two three =
+    rw e
+    (behind (n ∷ x .position ∷ x .symbol ∷ []) _ begin (both p (n ∷ x .position ∷ []) (x .symbol ∷ []) (both p (n ∷ []) (x .position ∷ []) one two) three)
+    (ap (λ (k : ℕ). k ∷ x .position ∷ x .symbol ∷ []) (number ∙ ap numberOf e)))
 
 -- some values, NN and data
 pub load-written : (d : Ring) (tag slot a k : ℕ) (xs : List ℕ) (l : Load) {p q r : Ring} → length (l .bytes) ≡ 16 → k ≡ countOf l → p ≡ begun d tag (length xs + (k + 1)) slot a

@@ -1,10 +1,11 @@
--- A reader of tagged records, from the request's words alone: it uses nothing of what writes them (02, E1 and E4). Assumes nothing.
+-- A reader of tagged records, from the request's words alone: it uses nothing of what writes them (02, E1, E4 and E6). Assumes nothing.
 use mathlib.Core.Bool.{cond}
 use mathlib.Core.List.{List, [], _∷_, _++_}
 use mathlib.Core.Option.{Option, none, some}
 use Prim.Native.Nat.{ℕ, zero, suc, _+_, _-_, _*_}
 use lib.Dec.{eqb}
 use lib.ListN.{length, getD, take, drop}
+use Rattle.wire.specs.declared.pair.WrongPair.{WrongPair}
 use Rattle.station.specs.Events.{Word, owns, taken, failed, free, given, answer}
 
 -- what a record says
@@ -15,6 +16,8 @@ pub record Entry : Type 0 where
   pub values : List ℕ
   -- the elapsed slots, on free lines only
   pub elapsed : Option ℕ
+  -- which pair was broken, where a failed line says so
+  pub pair : Option WrongPair
 
 -- tags: 1 owns, 2 taken, 3 failed, 4 free, 5 given, 6 answer, and no others
 unfoldable pub wordOf : ℕ → Option Word
@@ -30,11 +33,12 @@ wordOf n =
 unfoldable pub numberIn : List ℕ → ℕ
 numberIn v = getD v 0 0 * 16777216 + getD v 1 0 * 65536 + getD v 2 0 * 256 + getD v 3 0
 
--- what stands behind the station: values, and in a free record four bytes of elapsed slots at its end
+-- what stands behind the station: values; in a failed record the number alone is one, in a free record four bytes of elapsed slots
+-- stand at the end
 unfoldable pub valuesIn : Word → List ℕ → List ℕ
 valuesIn owns vs = vs
 valuesIn taken vs = vs
-valuesIn failed vs = vs
+valuesIn failed vs = take 1 vs
 valuesIn free vs = take (length vs - 4) vs
 valuesIn given vs = vs
 valuesIn answer vs = vs
@@ -47,6 +51,19 @@ elapsedIn free vs = some (numberIn (drop (length vs - 4) vs))
 elapsedIn given vs = none
 elapsedIn answer vs = none
 
+-- behind the number of a failed record: two bytes, or none
+abbrev pub twoBytes : List ℕ → Option WrongPair
+twoBytes [] = none
+twoBytes (p ∷ xs) = some (record { position = p; symbol = getD xs 0 0 })
+
+unfoldable pub pairIn : Word → List ℕ → Option WrongPair
+pairIn owns vs = none
+pairIn taken vs = none
+pairIn failed vs = twoBytes (drop 1 vs)
+pairIn free vs = none
+pairIn given vs = none
+pairIn answer vs = none
+
 -- a value: four bytes of slot number, the station, the rest
 unfoldable pub entryIn : Word → List ℕ → Entry
 entryIn w v =
@@ -56,6 +73,7 @@ entryIn w v =
       word = w;
       values = valuesIn w (drop 5 v);
       elapsed = elapsedIn w (drop 5 v);
+      pair = pairIn w (drop 5 v);
     }
 
 -- a record of another tag says nothing

@@ -1,8 +1,10 @@
--- One line of the bench as one tagged record (02, E1 and E4). Assumes nothing.
+-- One line of the bench as one tagged record (02, E1, E4 and E6). Assumes nothing.
 use mathlib.Core.List.{List, [], _∷_, _++_}
+use mathlib.Core.Option.{Option, none, some}
 use Prim.Native.Nat.{ℕ, _+_, _/_, _%_}
 use lib.ListN.{length}
 use Rattle.wire.specs.Form.{bytesOf}
+use Rattle.wire.specs.declared.pair.WrongPair.{WrongPair}
 use Rattle.wire.specs.declared.part.Telegram.{Telegram}
 use Rattle.station.specs.Events.{Word, owns, taken, failed, free, given, answer}
 use Rattle.bus.specs.Events.{Line}
@@ -20,17 +22,23 @@ tagOf answer = 6
 unfoldable pub fourBytes : ℕ → List ℕ
 fourBytes n = n / 16777216 % 256 ∷ n / 65536 % 256 ∷ n / 256 % 256 ∷ n % 256 ∷ []
 
--- the line's other values, a byte each; a free line has the elapsed slots behind them
-abbrev pub othersAs : Word → List ℕ → ℕ → List ℕ
-othersAs owns vs elapsed = vs
-othersAs taken vs elapsed = vs
-othersAs failed vs elapsed = vs
-othersAs free vs elapsed = vs ++ fourBytes elapsed
-othersAs given vs elapsed = vs
-othersAs answer vs elapsed = vs
+-- a broken pair in two bytes, the position of its A9 and the symbol after it
+abbrev pub pairBytes : Option WrongPair → List ℕ
+pairBytes none = []
+pairBytes (some x) = x .position ∷ x .symbol ∷ []
+
+-- the line's other values, a byte each; behind them a failed line has the position and the symbol of a broken pair, where it is told
+-- of one, and a free line the elapsed slots
+abbrev pub othersAs : Word → List ℕ → Option WrongPair → ℕ → List ℕ
+othersAs owns vs pair elapsed = vs
+othersAs taken vs pair elapsed = vs
+othersAs failed vs pair elapsed = vs ++ pairBytes pair
+othersAs free vs pair elapsed = vs ++ fourBytes elapsed
+othersAs given vs pair elapsed = vs
+othersAs answer vs pair elapsed = vs
 
 abbrev pub othersOf : Line → List ℕ
-othersOf l = othersAs (l .event .word) (l .event .values) (l .time .elapsed)
+othersOf l = othersAs (l .event .word) (l .event .values) (l .event .pair) (l .time .elapsed)
 
 -- slot number, station, and the others
 unfoldable pub valueOf : Line → List ℕ

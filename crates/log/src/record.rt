@@ -4,8 +4,8 @@ ghost use mathlib.Core.Bool.{true, false};
 ghost use mathlib.Core.List.{[], _∷_};
 ghost use Prim.Native.Nat.{_+_};
 ghost use Rattle.wire.specs.Form.{bytesOf, countOf};
-ghost use Rattle.station.specs.Events.{failed, free, given, answer, numberOf};
-ghost use Rattle.log.specs.Record.{tagOf, fourBytes, givenValues, answerValues};
+ghost use Rattle.station.specs.Events.{failed, free, given, answer, numberOf, pairOf};
+ghost use Rattle.log.specs.Record.{tagOf, fourBytes, pairBytes, givenValues, answerValues};
 ghost use Rattle.log.specs.Ring.{ring, pushed};
 ghost use Rattle.log.specs.Note.{begun, written, notedAll, passRecords};
 use crate::log::Log;
@@ -40,11 +40,19 @@ fn begin(l: Log, bytes: &mut [u8], tag: u8, more: u8, slot: u32, station: u8) ->
     ring::put(d, bytes, station)
 }
 
+// A failure's number; of a broken pair also where its A9 stands and the symbol after it.
 fn failed(l: Log, bytes: &mut [u8], slot: u32, station: u8, f: Failure) -> Log
-    ensures { λ r. ⌜ ring (now (bytes .exit)) r ≡ written (ring (now (bytes .entry)) l) (tagOf failed) slot station (numberOf f ∷ []) ⌝ }
+    ensures { λ r. ⌜ ring (now (bytes .exit)) r ≡ written (ring (now (bytes .entry)) l) (tagOf failed) slot station (numberOf f ∷ pairBytes (pairOf f)) ⌝ }
 {
-    let a = begin(l, bytes, 3, 1, slot, station);
-    ring::put(a, bytes, f.number())
+    let n = f.number();
+    let Failure::PairBroken(pair) = f else {
+        let a = begin(l, bytes, 3, 1, slot, station);
+        return ring::put(a, bytes, n);
+    };
+    let a = begin(l, bytes, 3, 3, slot, station);
+    let b = ring::put(a, bytes, n);
+    let c = ring::put(b, bytes, pair.position);
+    ring::put(c, bytes, pair.symbol)
 }
 
 // The elapsed slots.

@@ -1,7 +1,7 @@
 -- `log::record::first_of` meets its contract. Assumes nothing.
 use mathlib.Core.Path.{_∙_}
 use mathlib.Core.List.{[], _∷_}
-use Rattle.station.specs.Events.{failed, event, tells}
+use Rattle.station.specs.Events.{failedEvent, tells}
 use Rattle.log.specs.Note.{recordsOf, passRecords}
 use Rattle.log.proofs.Records.{one-noted, owns-noted, taken-noted, free-noted, two-noted}
 use Rattle.log.proofs.Written.{none-noted}
@@ -74,7 +74,7 @@ same-length-3 c = search needs
 
 returns-4 : tie.Need-returns-4
 unfolding passRecords tells
-returns-4 c = rw (c .before .before .before .before .before .told .given .1) (c .before .before .failed .ensures ∙ one-noted _ _ (event _ failed (_ ∷ [])))
+returns-4 c = rw (c .before .before .before .before .before .told .given .1) (c .before .before .failed .ensures ∙ one-noted _ _ (failedEvent _ (c .before .before .before .before .before .told .given .0 .0)))
 
 same-length-4 : tie.Need-same-length-4
 same-length-4 c = search needs
@@ -88,7 +88,7 @@ same-length-5 c = search needs
 
 returns-6 : tie.Need-returns-6
 unfolding passRecords tells
-returns-6 c = rw (c .before .before .before .before .before .before .before .before .before .told2 .given .1) (two-noted _ _ _ _ (c .before .before .before .before .before .before .before .before .before .before .before .before .args .t .station .part) (c .before .before .before .before .before .before .failed2 .ensures) (c .before .before .free2 .ensures))
+returns-6 c = rw (c .before .before .before .before .before .before .before .before .before .told2 .given .1) (two-noted _ _ _ (c .before .before .before .before .before .before .before .before .before .told2 .given .0 .0) (c .before .before .before .before .before .before .before .before .before .before .before .before .args .t .station .part) (c .before .before .before .before .before .before .failed2 .ensures) (c .before .before .free2 .ensures))
 
 returns-7 : tie.Need-returns-7
 unfolding passRecords tells recordsOf
