@@ -3,10 +3,13 @@
 use mathlib.Core.Path.{_≡_, refl, sym, ap, subst, subst₂, _∙_}
 use mathlib.Core.Bool.{Bool, true, false, cond, _&&_}
 use mathlib.Core.List.{List, [], _∷_, map}
+use mathlib.Core.Option.{Option}
+use mathlib.Core.Option as option
 use Prim.Native.Nat.{ℕ, _%_, _<_}
 use borrow.Author.Tests.{eq-eqb, ltb-true}
 use lib.Dec.{eqb, ltb}
 use Rattle.wire.specs.Form.{headOf, bytesOf, telegramForm, answerForm}
+use Rattle.wire.specs.declared.pair.WrongPair.{WrongPair}
 use Rattle.wire.specs.declared.part.Telegram.{Telegram}
 use Rattle.station.specs.Events.{Event, tells as lined}
 use Rattle.station.specs.Outbox.{waiting}
@@ -23,8 +26,8 @@ use Rattle.promises.specs.Orders.{seatsOf}
 use Rattle.promises.proofs.Shared.FitKept.{reachable-fit}
 use Rattle.promises.proofs.Shared.Seats.{slot-seat}
 use Rattle.promises.proofs.Shared.Uses.{on-reachable, reachable-more}
-use Rattle.history.specs.Agrees.{whoIn, sameSound, sameReport, wordIn, sameBytes, sameTelegrams, wordOf, sameLines, every, saysLaw, tellsLaw, observed, handsAs, handsLaw, linesLaw, heldLaw, answersAs, answersLaw, holdsFrom, holdsIn, eachLaw, wordAs, wordLaw, generatorLaw, allHoldFrom, allHoldIn, agrees}
-use Rattle.history.specs.Failed.{numberIn}
+use Rattle.history.specs.Agrees.{whoIn, sameSound, samePair, sameReport, wordIn, sameBytes, sameTelegrams, wordOf, sameLines, every, saysLaw, tellsLaw, observed, handsAs, handsLaw, linesLaw, heldLaw, answersAs, answersLaw, holdsFrom, holdsIn, eachLaw, wordAs, wordLaw, generatorLaw, allHoldFrom, allHoldIn, agrees}
+use Rattle.history.specs.Failed.{numberIn, pairIn}
 use Rattle.history.specs.Generator.{soundsCall, quietRun}
 use Rattle.history.specs.Lines.{lines, HandsOut, partIn, askedIn}
 use Rattle.history.specs.Moments.{Answers}
@@ -50,10 +53,16 @@ same-sound x y e = subst (λ (z : Sound). sameSound x z ≡ true) e (self x)
     self Quiet = refl
     self (Symbol s) = eq-eqb s s refl
 
+self-pair : (x : Option WrongPair) → samePair x x ≡ true
+self-pair option.none = refl
+self-pair (option.some x) = both (eqb (x .position) (x .position)) (eqb (x .symbol) (x .symbol)) (eq-eqb (x .position) (x .position) refl) (eq-eqb (x .symbol) (x .symbol) refl)
+
 same-report : (x y : Report) → x ≡ y → sameReport x y ≡ true
 same-report x y e =
     subst (λ (z : Report). sameReport x z ≡ true) e
+    (both (eqb (wordIn x) (wordIn x) && eqb (numberIn x) (numberIn x)) (samePair (pairIn x) (pairIn x))
     (both (eqb (wordIn x) (wordIn x)) (eqb (numberIn x) (numberIn x)) (eq-eqb (wordIn x) (wordIn x) refl) (eq-eqb (numberIn x) (numberIn x) refl))
+    (self-pair (pairIn x)))
 
 self-bytes : (xs : List ℕ) → sameBytes xs xs ≡ true
 self-bytes [] = refl
@@ -75,11 +84,12 @@ same-telegrams ts us e = subst (λ (vs : List Telegram). sameTelegrams ts vs ≡
 self-lines : (es : List Event) → sameLines es es ≡ true
 self-lines [] = refl
 self-lines (e ∷ es) =
-    both (eqb (e .station) (e .station) && eqb (wordOf (e .word)) (wordOf (e .word)) && sameBytes (e .values) (e .values) && sameBytes (e .leaving) (e .leaving)) (sameLines es es)
+    both (eqb (e .station) (e .station) && eqb (wordOf (e .word)) (wordOf (e .word)) && sameBytes (e .values) (e .values) && sameBytes (e .leaving) (e .leaving) && samePair (e .pair) (e .pair)) (sameLines es es)
+    (both (eqb (e .station) (e .station) && eqb (wordOf (e .word)) (wordOf (e .word)) && sameBytes (e .values) (e .values) && sameBytes (e .leaving) (e .leaving)) (samePair (e .pair) (e .pair))
     (both (eqb (e .station) (e .station) && eqb (wordOf (e .word)) (wordOf (e .word)) && sameBytes (e .values) (e .values)) (sameBytes (e .leaving) (e .leaving))
     (both (eqb (e .station) (e .station) && eqb (wordOf (e .word)) (wordOf (e .word))) (sameBytes (e .values) (e .values))
     (both (eqb (e .station) (e .station)) (eqb (wordOf (e .word)) (wordOf (e .word))) (eq-eqb (e .station) (e .station) refl) (eq-eqb (wordOf (e .word)) (wordOf (e .word)) refl))
-    (self-bytes (e .values))) (self-bytes (e .leaving)))
+    (self-bytes (e .values))) (self-bytes (e .leaving))) (self-pair (e .pair)))
     (self-lines es)
 
 same-lines : (es fs : List Event) → es ≡ fs → sameLines es fs ≡ true
@@ -100,8 +110,8 @@ hands-same given u h t w = same-bytes (telegramForm t) (partIn u h) (w .part ref
 hands-same answered u h t w =
     both (sameBytes (answerForm (t .load)) (partIn u h)) (eqb (t .zz) (askedIn u))
     (same-bytes (answerForm (t .load)) (partIn u h) (w .answer refl)) (eq-eqb (t .zz) (askedIn u) (w .from refl))
-hands-same (failed n) u h t w = refl
-hands-same (failedFree n) u h t w = refl
+hands-same (failed n x) u h t w = refl
+hands-same (failedFree n x) u h t w = refl
 
 module _ (b : Bus) (r : Reachable b) (i : ℕ) (l : i < attachedTo b) (k : Known) (v : Account i b k) (w : SeatObserved b i (k .history)) where
   -- its state is what the calls brought

@@ -1,13 +1,15 @@
 -- Each failed number exactly when (01, "Sending", "Reading", "Acknowledgement"). Assumes nothing.
-use mathlib.Core.Path.{_≡_, refl, subst, _∙_}
+use mathlib.Core.Path.{_≡_, refl, sym, ap, subst, _∙_}
 use mathlib.Core.Bool.{Bool, true, false, cond}
 use mathlib.Core.List.{List, [], _∷_, _++_}
+use mathlib.Core.Option as option
 use Prim.Native.Nat.{ℕ, _≤_}
 use native.Mathlib.Omega.{arith}
 use borrow.Author.Tests.{eqb-true, eqb-false, ne-eqb}
 use lib.Dec.{eqb, ltb, leb}
 use lib.ListN.{length}
 use Rattle.wire.specs.Form.{answerForm}
+use Rattle.wire.specs.declared.pair.WrongPair.{WrongPair}
 use Rattle.wire.specs.declared.part.Part.the-variants.{MasterPart, AnswerPart}
 use Rattle.wire.specs.declared.reader.Outcome.{Outcome}
 use Rattle.wire.specs.declared.reader.Outcome.the-variants.{More, Cut, NoMaster, Unusable, TooLong, BrokenPair, Whole}
@@ -20,13 +22,13 @@ use Rattle.history.specs.Share as share
 use Rattle.history.specs.Verdict.{Plainly, bytes, waits, broken, unexpanded, afterNn, verdict}
 use Rattle.history.specs.Observer.{silence, taken, given, answered, failed, failedFree, tellsOut, tellsNak, tellsRead, tellsFirst, tellsIn, cutShort}
 use Rattle.history.specs.Observer as observer
-use Rattle.history.specs.Failed.{numberIn, Fails, disturbed, disturbed-first, no-acknowledgement, answer-not-acknowledged, wrong-taken, nak-twice, answer-nak-twice, syn-heard, syn-in-answer, syn-after-answer, pair-broken, over-long}
+use Rattle.history.specs.Failed.{numberIn, Breaks, in-answer, Fails, disturbed, disturbed-first, no-acknowledgement, answer-not-acknowledged, wrong-taken, nak-twice, answer-nak-twice, syn-heard, syn-in-answer, syn-after-answer, pair-broken, over-long}
 
 -- what an answer can come to
 data InAnswer : Outcome → Type 0 where
   goes-on : InAnswer More
   too-long : InAnswer TooLong
-  breaks : InAnswer BrokenPair
+  breaks : {x : WrongPair} → InAnswer (BrokenPair x)
   ends : {matched : Bool} → InAnswer (Whole matched)
 
 after-nn : (head : List ℕ) (n : ℕ) (u : Plainly) → InAnswer (afterNn head n u)
@@ -36,7 +38,7 @@ after-nn head n (bytes bs) = by (ltb n (length bs)) _
     by true matched = ends
     by false matched = goes-on
 after-nn head n waits = goes-on
-after-nn head n broken = breaks
+after-nn head n (broken i y) = breaks
 
 answer-comes-to : (xs : List ℕ) → InAnswer (verdict AnswerPart xs)
 unfolding verdict
@@ -88,7 +90,7 @@ module _ (book : Answers) where
       again-why again i e = it-is (nak-twice i) e
 
       by : (x y z : Bool) → eqb b 0x00 ≡ x → eqb b 0xFF ≡ y → eqb b 0xAA ≡ z
-          → numberIn (cond x taken (cond y (tellsNak n) (cond z (cutShort s) (failed 2)))) ≡ k → Fails book k (share.awaits s n) (Symbol b)
+          → numberIn (cond x taken (cond y (tellsNak n) (cond z (cutShort s) (failed 2 option.none)))) ≡ k → Fails book k (share.awaits s n) (Symbol b)
       by true y z p q r e = none e l
       by false true z p q r e = again-why n (eqb-true b 0xFF q) e
       by false false true p q r e = it-is (syn-heard (eqb-true b 0xAA r)) (four s ∙ e)
@@ -111,12 +113,12 @@ module _ (book : Answers) where
       zero false NoMaster = refl
       zero false Unusable = refl
       zero false TooLong = refl
-      zero false BrokenPair = refl
+      zero false (BrokenPair x) = refl
       zero false (Whole j) = two (eqb (share.zzIn (xs ++ (b ∷ []))) 0xFE) j
   reads-why (asker t) n xs (Symbol b) {k} e l = by (eqb b 0xAA) (verdict AnswerPart (xs ++ (b ∷ []))) refl refl (answer-comes-to (xs ++ (b ∷ []))) e
     where
       by : (q : Bool) (o : Outcome) → eqb b 0xAA ≡ q → verdict AnswerPart (xs ++ (b ∷ [])) ≡ o → InAnswer o
-          → numberIn (cond q (failedFree 4) (tellsRead o (asker t) (xs ++ (b ∷ [])))) ≡ k → Fails book k (share.reads (asker t) n xs) (Symbol b)
+          → numberIn (cond q (failedFree 4 option.none) (tellsRead o (asker t) (xs ++ (b ∷ [])))) ≡ k → Fails book k (share.reads (asker t) n xs) (Symbol b)
       by true o i j w e = it-is (syn-in-answer (eqb-true b 0xAA i)) e
       by false o i j goes-on e = none e l
       by false o i j too-long e = it-is (over-long (eqb-false b 0xAA i) j) e
@@ -136,7 +138,7 @@ module _ (book : Answers) where
       zero false false false j = refl
   judges-why (asker t) n xs matched just (Symbol b) {k} e l = by (eqb b 0x00) (eqb b 0xFF) (eqb b 0xAA) refl refl refl e
     where
-      taken-why : (j : Bool) → b ≡ 0x00 → numberIn (cond j answered (failed 2)) ≡ k → Fails book k (share.judges (asker t) n xs j just) (Symbol b)
+      taken-why : (j : Bool) → b ≡ 0x00 → numberIn (cond j answered (failed 2 option.none)) ≡ k → Fails book k (share.judges (asker t) n xs j just) (Symbol b)
       taken-why true i e = none e l
       taken-why false i e = it-is (wrong-taken i) e
 
@@ -145,7 +147,7 @@ module _ (book : Answers) where
       again-why again i e = it-is (answer-nak-twice i) e
 
       by : (x y z : Bool) → eqb b 0x00 ≡ x → eqb b 0xFF ≡ y → eqb b 0xAA ≡ z
-          → numberIn (cond x (cond matched answered (failed 2)) (cond y (tellsNak n) (cond z (failedFree 4) (failed 2)))) ≡ k
+          → numberIn (cond x (cond matched answered (failed 2 option.none)) (cond y (tellsNak n) (cond z (failedFree 4 option.none) (failed 2 option.none)))) ≡ k
           → Fails book k (share.judges (asker t) n xs matched just) (Symbol b)
       by true y z p q r e = taken-why matched (eqb-true b 0x00 p) e
       by false true z p q r e = again-why n (eqb-true b 0xFF q) e
@@ -157,7 +159,7 @@ module _ (book : Answers) where
   owes-why pb sb h {k} e l = by (answerForm (book pb sb)) refl e
     where
       one : (y : ℕ) (ys : List ℕ) (q : Bool) → answerForm (book pb sb) ≡ y ∷ ys → isSymbol y h ≡ q
-          → numberIn (cond q silence (failed 1)) ≡ k → Fails book k (share.owes pb sb) h
+          → numberIn (cond q silence (failed 1 option.none)) ≡ k → Fails book k (share.owes pb sb) h
       one y ys true i j e = none e l
       one y ys false i j e = it-is (disturbed-first i j) e
 
@@ -211,3 +213,30 @@ module _ (book : Answers) where
   reader-never (syn-after-answer _) e = clash (cc)
   reader-never (pair-broken _ _) e = clash (cc)
   reader-never (over-long _ _) e = clash (cc)
+
+  -- ---- which pair was broken
+
+  pub then-pair : {x : WrongPair} {u : Share} {h : Sound} → Breaks x u h → tellsIn u book h ≡ failed 5 (option.some x)
+  then-pair (in-answer {b = b} n e) = rw (ne-eqb b 0xAA n, e)
+
+  -- told with failed 5: of its two causes an NN above 16 speaks of no pair
+  of-5 : {k : ℕ} {x : WrongPair} {u : Share} {h : Sound} → Fails book k u h → k ≡ 5 → tellsIn u book h ≡ failed 5 (option.some x) → Breaks x u h
+  of-5 (disturbed _) i e = absurd (omega arith)
+  of-5 (disturbed-first _ _) i e = absurd (omega arith)
+  of-5 (no-acknowledgement _) i e = absurd (omega arith)
+  of-5 (answer-not-acknowledged _) i e = absurd (omega arith)
+  of-5 (wrong-taken _) i e = absurd (omega arith)
+  of-5 (nak-twice _) i e = absurd (omega arith)
+  of-5 (answer-nak-twice _) i e = absurd (omega arith)
+  of-5 (syn-heard _) i e = absurd (omega arith)
+  of-5 (syn-in-answer _) i e = absurd (omega arith)
+  of-5 (syn-after-answer _) i e = absurd (omega arith)
+  of-5 (pair-broken {b = b} {x = y} n f) i e =
+      let j : failed 5 (option.some y) ≡ failed 5 (option.some _) = sym (rw (ne-eqb b 0xAA n, f)) ∙ e in
+      in-answer n (f ∙ ap BrokenPair cc)
+  of-5 (over-long {b = b} n f) i e =
+      let j : failed 5 option.none ≡ failed 5 (option.some _) = sym (rw (ne-eqb b 0xAA n, f)) ∙ e in
+      clash (cc)
+
+  pub why-pair : {x : WrongPair} {u : Share} {h : Sound} → tellsIn u book h ≡ failed 5 (option.some x) → Breaks x u h
+  why-pair {u = u} {h = h} e = of-5 (why u h (ap numberIn e) (omega arith)) refl e

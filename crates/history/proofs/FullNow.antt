@@ -34,11 +34,11 @@ left-full owns w = w
 left-full taken w = w
 left-full given w = w
 left-full answered w = w
-left-full (failed n) w = w
+left-full (failed n x) w = w
 left-full free none = none
 left-full free (next _ w) = w
-left-full (failedFree n) none = none
-left-full (failedFree n) (next _ w) = w
+left-full (failedFree n x) none = none
+left-full (failedFree n x) (next _ w) = w
 
 held-full : (b : Bus) (i : ℕ) (ws : List Who) (c : Call) {ts : List Telegram} → Every Full ts → Every Full (heldAfter b i ws ts c)
 held-full b i ws (attach a m) w = w

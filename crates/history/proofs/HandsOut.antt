@@ -87,8 +87,8 @@ outs taken = false
 outs free = false
 outs given = true
 outs answered = true
-outs (failed n) = false
-outs (failedFree n) = false
+outs (failed n x) = false
+outs (failedFree n x) = false
 
 -- it hands nothing out
 record Mute (r : Report) : Type 0 where
@@ -172,8 +172,8 @@ at-once Unusable (station a m) ys e = clash (cc)
 at-once Unusable (asker t) ys e = clash (cc)
 at-once TooLong (station a m) ys e = clash (cc)
 at-once TooLong (asker t) ys e = clash (cc)
-at-once BrokenPair (station a m) ys e = clash (cc)
-at-once BrokenPair (asker t) ys e = clash (cc)
+at-once (BrokenPair x) (station a m) ys e = clash (cc)
+at-once (BrokenPair x) (asker t) ys e = clash (cc)
 at-once (Whole matched) (asker t) ys e = clash (cc)
 at-once (Whole matched) (station a m) ys e = by (eqb (share.zzIn ys) 0xFE) matched e
   where
@@ -192,8 +192,8 @@ no-answer-read Unusable (station a m) ys e = clash (cc)
 no-answer-read Unusable (asker t) ys e = clash (cc)
 no-answer-read TooLong (station a m) ys e = clash (cc)
 no-answer-read TooLong (asker t) ys e = clash (cc)
-no-answer-read BrokenPair (station a m) ys e = clash (cc)
-no-answer-read BrokenPair (asker t) ys e = clash (cc)
+no-answer-read (BrokenPair x) (station a m) ys e = clash (cc)
+no-answer-read (BrokenPair x) (asker t) ys e = clash (cc)
 no-answer-read (Whole matched) r ys e = by (readsForAll r ys) matched e
   where
     by : (q matched : Bool) → cond q (cond matched given silence) silence ≡ answered → ⊥

@@ -12,7 +12,7 @@ use Rattle.wire.specs.Reader.{more, ended, readQq, readNn, readByte, dataAs, re
 use Rattle.wire.specs.declared.part.Part.the-variants.{MasterPart, AnswerPart}
 use Rattle.wire.specs.Symbol.{kindOf, isCount}
 use Rattle.wire.specs.declared.pair.Undone.{Undone}
-use Rattle.wire.specs.declared.pair.Undone.the-variants.{Byte, Opens, Broken}
+use Rattle.wire.specs.declared.pair.Undone.the-variants.{Byte, Opens, Ends, Broken}
 use Rattle.wire.specs.declared.part.Telegram.{Telegram}
 use Rattle.wire.specs.declared.reader.Cursor.{Cursor}
 use Rattle.wire.specs.declared.reader.Place.{Place}
@@ -72,12 +72,14 @@ module _ (c : Cursor) (p : Telegram) (b : ℕ) where
   unfolding readByte
   data-head i (Byte v) = either-head (ltb i 16) (more-head _ _ refl) (ended-head TooLong)
   data-head i Opens = more-head _ _ refl
-  data-head i Broken = ended-head BrokenPair
+  data-head i Ends = ended-head Cut
+  data-head i (Broken x) = ended-head (BrokenPair x)
 
   crc-head : (u : Undone) → SameHead p (crcAs u c p)
   crc-head (Byte v) = ended-head _
   crc-head Opens = more-head _ _ refl
-  crc-head Broken = ended-head BrokenPair
+  crc-head Ends = ended-head Cut
+  crc-head (Broken x) = ended-head (BrokenPair x)
 
   cut-fate : (l : Place) → Fate l p (ended c p Cut)
   cut-fate Qq = tt
@@ -95,8 +97,8 @@ module _ (c : Cursor) (p : Telegram) (b : ℕ) where
   place-fate Pb k = tt
   place-fate Sb k = tt
   place-fate Nn k = either-head (isCount k) (more-head _ _ refl) (ended-head TooLong)
-  place-fate (Data i) k = data-head i (undo (c .opened) b)
-  place-fate Crc k = crc-head (undo (c .opened) b)
+  place-fate (Data i) k = data-head i (undo (c .opened) (c .at) b)
+  place-fate Crc k = crc-head (undo (c .opened) (c .at) b)
 
   kind-fate : (k : Kind) → Fate (c .place) p (readAs k c p b)
   unfolding readPlace

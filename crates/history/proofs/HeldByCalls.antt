@@ -335,8 +335,8 @@ left-none taken = refl
 left-none free = refl
 left-none given = refl
 left-none answered = refl
-left-none (failed n) = refl
-left-none (failedFree n) = refl
+left-none (failed n x) = refl
+left-none (failedFree n x) = refl
 
 not-its : {A : Type 0} (d : Bool) {q : Bool} (x y : A) → q ≡ false → cond (cond d q false) x y ≡ y
 not-its true x y e = rw e

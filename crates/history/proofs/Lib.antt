@@ -1,8 +1,10 @@
 pub mod Access
 pub mod Agreed
 pub mod Anded
+pub mod AnswerHeard
 pub mod AsObserved
 pub mod AtLeastTwelve
+pub mod BrokenPairThere
 pub mod ElevenTooFew
 pub mod FailedWhen
 pub mod FullNow

@@ -5,6 +5,7 @@ use mathlib.Core.Path.{_≡_, refl, ap, subst, _∙_}
 use mathlib.Core.Logic.{_≢_}
 use mathlib.Core.Bool.{Bool}
 use mathlib.Core.List.{List, [], _∷_, _++_}
+use mathlib.Core.Option.{none}
 use Prim.Native.Nat.{ℕ, _<_}
 use borrow.Author.Tests.{ne-eqb}
 use lib.ListN.{getD}
@@ -79,7 +80,7 @@ module _ (cs : List Call) (bytes : ByteCalls cs) where
 
 -- told failed 5 in this slot; in the next it sends AA and leaves, whatever is heard
 pub record Fails5 (b : Bus) (i n : ℕ) : Type 0 where
-  pub fails : reportOf (turnAt (slotHeard b (Symbol n)) i .told) ≡ failed 5
+  pub fails : reportOf (turnAt (slotHeard b (Symbol n)) i .told) ≡ failed 5 none
   pub sends : saidBy (turnAt (slotHeard b (Symbol n)) i) ≡ Symbol 0xAA
   pub leaves : (h : Sound) → reportOf (turnAt (slotHeard (slotHeard b (Symbol n)) h) i .told) ≡ free
 

@@ -281,6 +281,14 @@ brokenAnswer = asking ++ symbols (0x01 ∷ 0xA9 ∷ 0x05 ∷ []) ++ slots 2
 abbrev pub brokenAnswersCrc : List Call
 brokenAnswersCrc = asking ++ symbols (0x01 ∷ 0x64 ∷ 0xA9 ∷ 0xFF ∷ []) ++ slots 2
 
+-- A9 05 right behind A9 01 in the answer, with a quiet slot within: failed 5, the A9 in place 3, and AA
+abbrev pub brokenBehindPair : List Call
+brokenBehindPair = asking ++ symbols (0x02 ∷ 0xA9 ∷ 0x01 ∷ 0xA9 ∷ []) ++ (heard Quiet ∷ []) ++ symbols (0x05 ∷ []) ++ slots 2
+
+-- a wrong CRC gets FF, and in the answer that comes again A9 A9: failed 5, the first A9 in place 1, and AA
+abbrev pub brokenAnswerAgain : List Call
+brokenAnswerAgain = asking ++ symbols (0x01 ∷ 0x64 ∷ 0xFE ∷ []) ++ slots 1 ++ symbols (0x01 ∷ 0xA9 ∷ 0xA9 ∷ []) ++ slots 2
+
 -- AA right after an A9 in the answer: failed 4 and free
 abbrev pub cutAfterEscape : List Call
 cutAfterEscape = asking ++ symbols (0x01 ∷ 0xA9 ∷ 0xAA ∷ []) ++ slots 2
@@ -315,8 +323,8 @@ runs =
     ∷ toAllRight ∷ toAllWrong
     ∷ noMaster ∷ ownAddress ∷ escapeAsZz ∷ escapeAsPb ∷ escapeAsSb ∷ elsewhere ∷ pairInData ∷ pairInCrc
     ∷ brokenPair ∷ brokenPairInCrc ∷ masterRead ∷ wrongAnswer ∷ wrongAnswerTaken ∷ tooLongAnswer ∷ tooLongAnswerAgain
-    ∷ brokenAnswer ∷ brokenAnswersCrc
-    ∷ cutAfterEscape ∷ pairInAnswer ∷ nineQuiet ∷ synLost ∷ countedAnew ∷ []
+    ∷ brokenAnswer ∷ brokenAnswersCrc ∷ brokenBehindPair ∷ brokenAnswerAgain ∷ cutAfterEscape ∷ pairInAnswer
+    ∷ nineQuiet ∷ synLost ∷ countedAnew ∷ []
 
 pub runs-agree : every agrees runs ≡ true
 unfolding compared

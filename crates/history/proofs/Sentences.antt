@@ -1,13 +1,15 @@
 -- Sentences of 01 from what is heard, after any calls from power-on, for every attached station and whatever all hear in the next
--- slot: owns, each failed number, taken, free, given and answer, each exactly when. Assumes nothing.
+-- slot: owns, each failed number, the pair told with failed 5, taken, free, given and answer, each exactly when. Assumes nothing.
 use mathlib.Core.Path.{_≡_, refl, sym, ap, _∙_}
 use mathlib.Core.Logic.{_↔_, _⊎_, inl, inr, ⊎-elim}
 use mathlib.Core.Bool.{Bool, true, false, cond, true≢false, false≢true}
 use mathlib.Core.List.{List, [], _∷_, _++_}
+use mathlib.Core.Option.{none, some}
 use Prim.Native.Nat.{ℕ, _≤_, _<_}
 use native.Mathlib.Omega.{arith}
 use lib.Dec.{eqb}
 use Rattle.wire.specs.Form.{answerForm}
+use Rattle.wire.specs.declared.pair.WrongPair.{WrongPair}
 use Rattle.wire.specs.declared.reader.Outcome.{Outcome}
 use Rattle.wire.specs.declared.reader.Outcome.the-variants.{More, Cut, NoMaster, Unusable, TooLong, BrokenPair, Whole}
 use Rattle.wire.proofs.SymbolKind.{clash}
@@ -25,14 +27,81 @@ use Rattle.history.specs.Share as share
 use Rattle.history.specs.Verdict.{verdict}
 use Rattle.history.specs.Observer.{reportOf, Report, silence, owns, taken, free, given, answered, failed, failedFree, tellsOut, tellsNak, tellsRead, handsOut, toOwner, tellsFirst, tellsIn, disturbed, cutShort, shareOf}
 use Rattle.history.specs.Observer as observer
-use Rattle.history.specs.Failed.{numberIn, Fails}
+use Rattle.history.specs.Failed.{numberIn, pairIn, Fails, Breaks}
 use Rattle.history.specs.Reasons.{isFree, Taken, Leaves, Given, Answered}
 use Rattle.history.proofs.AsObserved.{tells-as-observed}
-use Rattle.history.proofs.FailedWhen.{why, then-told, reader-never}
+use Rattle.history.proofs.FailedWhen.{why, then-told, reader-never, why-pair, then-pair}
 use Rattle.history.proofs.Shares.{before-won}
 use Rattle.history.proofs.ToldWhen.{reasons, then-taken, then-free, then-given, then-answered, first-silent}
 
--- ---- only who sent its QQ is told owns
+-- ---- what a share can tell: anything but owns, which only who sent its QQ is told; and of a broken pair only with failed 5
+
+data OfShare : Report → Type 0 where
+  nothing : OfShare silence
+  its-taken : OfShare taken
+  its-free : OfShare free
+  its-given : OfShare given
+  its-answer : OfShare answered
+  its-failed : {k : ℕ} → OfShare (failed k none)
+  its-failed-free : {k : ℕ} → OfShare (failedFree k none)
+  its-pair : {x : WrongPair} → OfShare (failed 5 (some x))
+
+either : (q : Bool) {r s : Report} → OfShare r → OfShare s → OfShare (cond q r s)
+either true e f = e
+either false e f = f
+
+out-tells : (d : Sender) (zs : List ℕ) → OfShare (tellsOut d zs)
+out-tells (owner t) [] = either (eqb (t .zz) 0xFE) its-taken nothing
+out-tells (slave xs) [] = nothing
+out-tells d (z ∷ zs) = nothing
+
+disturbed-tells : (d : Sender) → OfShare (disturbed d)
+disturbed-tells (owner t) = its-failed-free
+disturbed-tells (slave xs) = its-failed
+
+cut-tells : (d : Sender) → OfShare (cutShort d)
+cut-tells (owner t) = its-failed-free
+cut-tells (slave xs) = its-failed
+
+nak-tells : (n : Time) → OfShare (tellsNak n)
+nak-tells once = nothing
+nak-tells again = its-failed
+
+owner-tells : (r : Reader) {f : Report} → OfShare f → OfShare (toOwner r f)
+owner-tells (station a m) e = nothing
+owner-tells (asker t) e = e
+
+hands-tells : (r : Reader) → OfShare (handsOut r)
+hands-tells (station a m) = its-given
+hands-tells (asker t) = its-answer
+
+read-tells : (v : Outcome) (r : Reader) (xs : List ℕ) → OfShare (tellsRead v r xs)
+read-tells More r xs = nothing
+read-tells Cut r xs = owner-tells r its-failed
+read-tells NoMaster r xs = owner-tells r its-failed
+read-tells Unusable r xs = owner-tells r its-failed
+read-tells TooLong r xs = owner-tells r its-failed
+read-tells (BrokenPair x) r xs = owner-tells r its-pair
+read-tells (Whole matched) r xs = either (readsForAll r xs) (either matched its-given nothing) nothing
+
+first-tells : (fs : List ℕ) (h : Sound) → OfShare (tellsFirst fs h)
+first-tells [] h = nothing
+first-tells (y ∷ ys) h = either (isSymbol y h) nothing its-failed
+
+of-share : (u : Share) (book : Answers) (h : Sound) → OfShare (tellsIn u book h)
+of-share share.over book h = nothing
+of-share share.releases book h = its-free
+of-share (share.sends d n y zs) book h = either (isSymbol y h) (out-tells d zs) (disturbed-tells d)
+of-share (share.awaits d n) book Quiet = nothing
+of-share (share.awaits d n) book (Symbol b) =
+    either (eqb b 0x00) its-taken (either (eqb b 0xFF) (nak-tells n) (either (eqb b 0xAA) (cut-tells d) its-failed))
+of-share (share.reads r n xs) book Quiet = nothing
+of-share (share.reads r n xs) book (Symbol b) = either (eqb b 0xAA) (owner-tells r its-failed-free) (read-tells (verdict (whichOf r) (xs ++ (b ∷ []))) r (xs ++ (b ∷ [])))
+of-share (share.judges r n xs matched just) book Quiet = nothing
+of-share (share.judges r n xs matched just) book (Symbol b) =
+    either (eqb b 0x00) (either matched (hands-tells r) (owner-tells r its-failed))
+    (either (eqb b 0xFF) (owner-tells r (nak-tells n)) (either (eqb b 0xAA) (owner-tells r its-failed-free) (owner-tells r its-failed)))
+of-share (share.owes pb sb) book h = first-tells (answerForm (book pb sb)) h
 
 abbrev isOwns : Report → Bool
 isOwns silence = false
@@ -41,71 +110,28 @@ isOwns taken = false
 isOwns free = false
 isOwns given = false
 isOwns answered = false
-isOwns (failed n) = false
-isOwns (failedFree n) = false
+isOwns (failed n x) = false
+isOwns (failedFree n x) = false
 
-record Other (r : Report) : Type 0 where
-  not-owns : isOwns r ≡ false
+not-owns : {r : Report} → OfShare r → isOwns r ≡ false
+not-owns nothing = refl
+not-owns its-taken = refl
+not-owns its-free = refl
+not-owns its-given = refl
+not-owns its-answer = refl
+not-owns its-failed = refl
+not-owns its-failed-free = refl
+not-owns its-pair = refl
 
-either : (q : Bool) {r s : Report} → Other r → Other s → Other (cond q r s)
-either true e f = e
-either false e f = f
-
-out-other : (d : Sender) (zs : List ℕ) → Other (tellsOut d zs)
-out-other (owner t) [] = either (eqb (t .zz) 0xFE) (record { not-owns = refl }) (record { not-owns = refl })
-out-other (slave xs) [] = record { not-owns = refl }
-out-other d (z ∷ zs) = record { not-owns = refl }
-
-disturbed-other : (d : Sender) → Other (disturbed d)
-disturbed-other (owner t) = record { not-owns = refl }
-disturbed-other (slave xs) = record { not-owns = refl }
-
-cut-other : (d : Sender) → Other (cutShort d)
-cut-other (owner t) = record { not-owns = refl }
-cut-other (slave xs) = record { not-owns = refl }
-
-nak-other : (n : Time) → Other (tellsNak n)
-nak-other once = record { not-owns = refl }
-nak-other again = record { not-owns = refl }
-
-owner-other : (r : Reader) {f : Report} → Other f → Other (toOwner r f)
-owner-other (station a m) e = record { not-owns = refl }
-owner-other (asker t) e = e
-
-hands-other : (r : Reader) → Other (handsOut r)
-hands-other (station a m) = record { not-owns = refl }
-hands-other (asker t) = record { not-owns = refl }
-
-read-other : (v : Outcome) (r : Reader) (xs : List ℕ) → Other (tellsRead v r xs)
-read-other More r xs = record { not-owns = refl }
-read-other Cut r xs = owner-other r (record { not-owns = refl })
-read-other NoMaster r xs = owner-other r (record { not-owns = refl })
-read-other Unusable r xs = owner-other r (record { not-owns = refl })
-read-other TooLong r xs = owner-other r (record { not-owns = refl })
-read-other BrokenPair r xs = owner-other r (record { not-owns = refl })
-read-other (Whole matched) r xs =
-    either (readsForAll r xs) (either matched (record { not-owns = refl }) (record { not-owns = refl })) (record { not-owns = refl })
-
-first-other : (fs : List ℕ) (h : Sound) → Other (tellsFirst fs h)
-first-other [] h = record { not-owns = refl }
-first-other (y ∷ ys) h = either (isSymbol y h) (record { not-owns = refl }) (record { not-owns = refl })
-
-tells-other : (u : Share) (book : Answers) (h : Sound) → Other (tellsIn u book h)
-tells-other share.over book h = record { not-owns = refl }
-tells-other share.releases book h = record { not-owns = refl }
-tells-other (share.sends d n y zs) book h = either (isSymbol y h) (out-other d zs) (disturbed-other d)
-tells-other (share.awaits d n) book Quiet = record { not-owns = refl }
-tells-other (share.awaits d n) book (Symbol b) =
-    either (eqb b 0x00) (record { not-owns = refl })
-    (either (eqb b 0xFF) (nak-other n) (either (eqb b 0xAA) (cut-other d) (record { not-owns = refl })))
-tells-other (share.reads r n xs) book Quiet = record { not-owns = refl }
-tells-other (share.reads r n xs) book (Symbol b) = either (eqb b 0xAA) (owner-other r (record { not-owns = refl })) (read-other (verdict (whichOf r) (xs ++ (b ∷ []))) r (xs ++ (b ∷ [])))
-tells-other (share.judges r n xs matched just) book Quiet = record { not-owns = refl }
-tells-other (share.judges r n xs matched just) book (Symbol b) =
-    either (eqb b 0x00) (either matched (hands-other r) (owner-other r (record { not-owns = refl })))
-    (either (eqb b 0xFF) (owner-other r (nak-other n))
-    (either (eqb b 0xAA) (owner-other r (record { not-owns = refl })) (owner-other r (record { not-owns = refl }))))
-tells-other (share.owes pb sb) book h = first-other (answerForm (book pb sb)) h
+only-failed-5 : {r : Report} {x : WrongPair} → OfShare r → pairIn r ≡ some x → r ≡ failed 5 (some x)
+only-failed-5 nothing e = clash (cc)
+only-failed-5 its-taken e = clash (cc)
+only-failed-5 its-free e = clash (cc)
+only-failed-5 its-given e = clash (cc)
+only-failed-5 its-answer e = clash (cc)
+only-failed-5 its-failed e = clash (cc)
+only-failed-5 its-failed-free e = clash (cc)
+only-failed-5 its-pair e = ap (failed 5) e
 
 -- ---- the sentences
 
@@ -139,7 +165,7 @@ module _ (cs : List Call) (bytes : ByteCalls cs) (i : ℕ) (attached : i < attac
       by true e = ((λ _. e), (λ _. in-turn h ∙ rw e))
       by false e =
           let t : told h ≡ tellsIn (shareOf (its .address) (its .master) g) (answersBy i cs) h = in-turn h ∙ rw e in (
-            (λ j. absurd (true≢false (sym (ap isOwns (sym t ∙ j)) ∙ tells-other (shareOf (its .address) (its .master) g) (answersBy i cs) h .not-owns))),
+            (λ j. absurd (true≢false (sym (ap isOwns (sym t ∙ j)) ∙ not-owns (of-share (shareOf (its .address) (its .master) g) (answersBy i cs) h)))),
             (λ j. absurd (false≢true (sym e ∙ j))),
           )
 
@@ -208,3 +234,23 @@ module _ (cs : List Call) (bytes : ByteCalls cs) (i : ℕ) (attached : i < attac
         (λ w. absurd (false≢true (sym (ap isFree (t .1)) ∙ then-free (answersBy i cs) w))),
       ))
       (by-share h)
+
+  -- failed 5 with these numbers, exactly then; and no other line speaks of a pair
+  pub pair-exactly-when : (h : Sound) (x : WrongPair) → (pairIn (told h) ≡ some x) ↔ Breaks x itsShare h
+  pair-exactly-when h x =
+      ⊎-elim
+      (λ t. (
+        (λ j. why-pair (answersBy i cs) (only-failed-5 (of-share itsShare (answersBy i cs) h) (sym (ap pairIn t) ∙ j))),
+        (λ w. ap pairIn (t ∙ then-pair (answersBy i cs) w)),
+      ))
+      (λ t. (
+        (λ j. let z : none ≡ some x = sym (ap pairIn (t .0)) ∙ j in clash (cc)),
+        (λ w. let z : silence ≡ failed 5 (some x) = sym (t .1) ∙ then-pair (answersBy i cs) w in clash (cc)),
+      ))
+      (by-share h)
+
+  -- and the number told with it is 5
+  pub pair-is-failed-5 : (h : Sound) (x : WrongPair) → pairIn (told h) ≡ some x → told h ≡ failed 5 (some x)
+  pair-is-failed-5 h x j =
+      ⊎-elim (λ t. t ∙ only-failed-5 (of-share itsShare (answersBy i cs) h) (sym (ap pairIn t) ∙ j))
+      (λ t. let z : none ≡ some x = sym (ap pairIn (t .0)) ∙ j in clash (cc)) (by-share h)

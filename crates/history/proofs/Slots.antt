@@ -3,6 +3,7 @@
 use mathlib.Core.Path.{_≡_, refl, sym, ap, subst, subst₂, _∙_}
 use mathlib.Core.Bool.{Bool, true, false, not, cond, _||_}
 use mathlib.Core.List.{List, [], _∷_, _++_, append-assoc}
+use mathlib.Core.Option.{none}
 use Prim.Native.Nat.{ℕ, _+_, _≤_}
 use native.Mathlib.Omega.{arith}
 use borrow.Author.Tests.{eqb-true, eq-eqb, ne-eqb, lt-ltb}
@@ -34,7 +35,7 @@ use Rattle.wire.specs.declared.reader.Outcome.the-variants.{More, Cut, NoMaster
 use Rattle.wire.proofs.OneMore.{step-more, step-whole, whole-form}
 use Rattle.wire.proofs.Reached.{Reached, reached-none, reached-more, reached-so-far}
 use Rattle.wire.proofs.SoFar.{SoFar, Upto, at-qq, at-zz, at-pb, at-sb, at-nn, at-data, at-crc, IsWhole}
-use Rattle.station.specs.Events.{numberOf}
+use Rattle.station.specs.Events.{numberOf, pairOf}
 use Rattle.station.specs.Addressed.{isBroadcast, forAll, answered, isOwn}
 use Rattle.station.proofs.Turned.{SendsAa, after-2, after-3, after-5, after-5-long, owner-sends-aa}
 use Rattle.station.specs.Table.{readerFails, whole, addressed, readOn, readOnAt, readsAs, reads, handedOut, judgedTaken, readAgain, judges, left, released, senderFails, hearBid, sentWhole, sent, hearOwnAs, hearOwn, taken, nakHeard, hearReply, hearReading, row, heardNothing, heardOther, ownerFails}
@@ -155,10 +156,10 @@ module _ (x : Station) (s : Sender) (n : Time) (w : Loaded s (x .out) (x .part))
       rw (w .begins) (going x (Sending 0 (sentPart s) (attempt again)) Silence
       (matches.is-sends {s = s} {n = again} 0 [] (w .begins) refl w) refl)
 
-  failed-comes : {f : Failure} → SendsAa f → Comes (ends s []) (observer.failed (numberOf f)) (senderFails (sentPart s) f x)
+  failed-comes : {f : Failure} → SendsAa f → Comes (ends s []) (observer.failed (numberOf f) (pairOf f)) (senderFails (sentPart s) f x)
   failed-comes {f} a = by s
     where
-      by : (s : Sender) → Comes (ends s []) (observer.failed (numberOf f)) (senderFails (sentPart s) f x)
+      by : (s : Sender) → Comes (ends s []) (observer.failed (numberOf f) (pairOf f)) (senderFails (sentPart s) f x)
       by (owner t) = rw (owner-sends-aa x a) (going x Releasing (Failed f) matches.is-releases refl)
       by (slave xs) = going x Silent (Failed f) matches.is-over refl
 
@@ -166,7 +167,7 @@ module _ (x : Station) (s : Sender) (n : Time) (w : Loaded s (x .out) (x .part))
   nak-comes = by s n again-comes (failed-comes after-3)
     where
       by : (s : Sender) (n : Time) → Comes (share.sent s again (symbolsOf s) (out s again) []) silence (goes x (Sending 0 (sentPart s) (attempt again)) Silence)
-          → Comes (ends s []) (observer.failed 3) (senderFails (sentPart s) TwiceNak x)
+          → Comes (ends s []) (observer.failed 3 none) (senderFails (sentPart s) TwiceNak x)
           → Comes (steps.onNak s n []) (tellsNak n) (nakHeard (attempt n) x (sentPart s))
       by (owner t) once e f = e
       by (owner t) again e f = f
@@ -192,7 +193,7 @@ module _ (x : Station) (s : Sender) (n : Time) (w : Loaded s (x .out) (x .part))
 
   reply-comes : (b : ℕ) → Sixteen (x .part .load)
       → Comes (cond (eqb b 0x00) (steps.taken s []) (cond (eqb b 0xFF) (steps.onNak s n []) (ends s [])))
-      (cond (eqb b 0x00) observer.taken (cond (eqb b 0xFF) (tellsNak n) (observer.failed 2)))
+      (cond (eqb b 0x00) observer.taken (cond (eqb b 0xFF) (tellsNak n) (observer.failed 2 none)))
       (hearReply x b (sentPart s) (attempt n))
   unfolding hearReply
   reply-comes b full =
@@ -201,7 +202,7 @@ module _ (x : Station) (s : Sender) (n : Time) (w : Loaded s (x .out) (x .part))
 -- ---- who reads a part
 
 -- who comes to nothing: an owner is told failed and sends AA, any other station is silent
-unread-comes : (x : Station) (r : Reader) {f : Failure} → SendsAa f → Comes (fails r []) (toOwner r (observer.failed (numberOf f))) (readerFails (readPart r) f x)
+unread-comes : (x : Station) (r : Reader) {f : Failure} → SendsAa f → Comes (fails r []) (toOwner r (observer.failed (numberOf f) (pairOf f))) (readerFails (readPart r) f x)
 unread-comes x (station a m) v = going x Silent Silence matches.is-over refl
 unread-comes x (asker t) {f} v = rw (owner-sends-aa x v) (going x Releasing (Failed f) matches.is-releases refl)
 
@@ -209,7 +210,7 @@ module _ (x : Station) (r : Reader) (n : Time) (named : Named r (x .address) (x 
   reread-comes : Comes (rereads r n []) (toOwner r (tellsNak n)) (readAgain (attempt n) x (readPart r))
   reread-comes = by r n named (unread-comes x r after-3)
     where
-      by : (r : Reader) (n : Time) → Named r (x .address) (x .master) (x .part) → Comes (fails r []) (toOwner r (observer.failed 3)) (readerFails (readPart r) TwiceNak x)
+      by : (r : Reader) (n : Time) → Named r (x .address) (x .master) (x .part) → Comes (fails r []) (toOwner r (observer.failed 3 none)) (readerFails (readPart r) TwiceNak x)
           → Comes (rereads r n []) (toOwner r (tellsNak n)) (readAgain (attempt n) x (readPart r))
       by (station a m) once k e =
           going x (Reading masterStart MasterPart (attempt again)) Silence
@@ -225,7 +226,7 @@ module _ (x : Station) (r : Reader) (n : Time) (named : Named r (x .address) (x 
   unfolding judgedTaken handedOut answered
   handed-comes xs matched h = by r matched (h .head) (unread-comes x r after-2)
     where
-      by : (r : Reader) (matched : Bool) → HeadOf r xs (x .part) → Comes (fails r []) (toOwner r (observer.failed 2)) (readerFails (readPart r) WrongAck x)
+      by : (r : Reader) (matched : Bool) → HeadOf r xs (x .part) → Comes (fails r []) (toOwner r (observer.failed 2 none)) (readerFails (readPart r) WrongAck x)
           → Comes (handed r xs matched []) (tellsHanded r matched) (judgedTaken x (readPart r) matched)
       by (asker t) true h e = going x Releasing Answered matches.is-releases refl
       by (asker t) false h e = e
@@ -239,7 +240,7 @@ module _ (x : Station) (r : Reader) (n : Time) (named : Named r (x .address) (x 
 
   judge-comes : (b : ℕ) (xs : List ℕ) (matched : Bool) → Holds r xs matched (x .part)
       → Comes (cond (eqb b 0x00) (handed r xs matched []) (cond (eqb b 0xFF) (rereads r n []) (fails r [])))
-      (cond (eqb b 0x00) (tellsHanded r matched) (cond (eqb b 0xFF) (toOwner r (tellsNak n)) (toOwner r (observer.failed 2))))
+      (cond (eqb b 0x00) (tellsHanded r matched) (cond (eqb b 0xFF) (toOwner r (tellsNak n)) (toOwner r (observer.failed 2 none))))
       (judges x b (readPart r) (attempt n) matched)
   unfolding judges
   judge-comes b xs matched h =
@@ -327,7 +328,7 @@ module _ (x : Station) (t : Telegram) (n : Time) (xs : List ℕ) (c : Cursor) (p
 
 -- it comes to nothing
 vain-comes : (x : Station) (r : Reader) (ys : List ℕ) {f : Failure} → SendsAa f
-    → Comes (cond (readsOn r ys) (fails r []) share.over) (toOwner r (observer.failed (numberOf f))) (readerFails (readPart r) f x)
+    → Comes (cond (readsOn r ys) (fails r []) share.over) (toOwner r (observer.failed (numberOf f) (pairOf f))) (readerFails (readPart r) f x)
 vain-comes x (asker t) ys v = unread-comes x (asker t) v
 vain-comes x (station a m) ys v = by (forIt a m ys)
   where
@@ -378,9 +379,9 @@ module _ (x : Station) (n : Time) (xs : List ℕ) (b : ℕ) (clear : b ≡ 0xAA 
         part-on read n xs b (readOne c (x .part) b .cursor) p₀ full (reached-more masterStart c p₀ (x .part) xs b reached e) keen
         (step-more (reached-so-far MasterPart c p₀ (x .part) xs full reached) b e)
     station-reads Cut e = absurd (clear (cut-on-syn c (x .part) b .0 e))
-    station-reads NoMaster e = vain-comes read self ys after-5
-    station-reads Unusable e = vain-comes read self ys after-5
-    station-reads BrokenPair e = vain-comes read self ys after-5
+    station-reads NoMaster e = vain-comes read self ys after-5-long
+    station-reads Unusable e = vain-comes read self ys after-5-long
+    station-reads (BrokenPair y) e = vain-comes read self ys (after-5 {x = y})
     station-reads TooLong e = vain-comes read self ys after-5-long
     station-reads (Whole matched) e =
         let h = step-whole (reached-so-far MasterPart c p₀ (x .part) xs full reached) b e in
@@ -407,9 +408,9 @@ module _ (x : Station) (n : Time) (xs : List ℕ) (b : ℕ) (clear : b ≡ 0xAA 
         answer-on read t n ys (readOne c (x .part) b .cursor) p₀ full (reached-more answerStart c p₀ (x .part) xs b reached e) same-zz
         (step-more so-far b e)
     asker-reads Cut e = absurd (clear (cut-on-syn c (x .part) b .0 e))
-    asker-reads NoMaster e = vain-comes read (asker t) ys after-5
-    asker-reads Unusable e = vain-comes read (asker t) ys after-5
-    asker-reads BrokenPair e = vain-comes read (asker t) ys after-5
+    asker-reads NoMaster e = vain-comes read (asker t) ys after-5-long
+    asker-reads Unusable e = vain-comes read (asker t) ys after-5-long
+    asker-reads (BrokenPair y) e = vain-comes read (asker t) ys (after-5 {x = y})
     asker-reads TooLong e = vain-comes read (asker t) ys after-5-long
     asker-reads (Whole matched) e =
         answer-whole read n ys matched t same-zz (record { head = tt; form = matched-form (step-whole so-far b e) })
@@ -551,12 +552,12 @@ module _ (s : Station) (array : Sixteen (s .part .load)) (held : s .phase ≡ Ow
           by (slave xs) = refl
       go p e (matches.is-reads {r = r} {n = n} c q f w k i) = by r
         where
-          by : (r : Reader) → reportOf (toldBySyn (Reading c (readPart r) (attempt n))) ≡ toOwner r (observer.failedFree 4)
+          by : (r : Reader) → reportOf (toldBySyn (Reading c (readPart r) (attempt n))) ≡ toOwner r (observer.failedFree 4 none)
           by (station a m) = refl
           by (asker t) = refl
       go p e (matches.is-judges {r = r} {n = n} {matched = y} {just = j} h i) = by r
         where
-          by : (r : Reader) → reportOf (toldBySyn (Judging (readPart r) (attempt n) y (not j))) ≡ toOwner r (observer.failedFree 4)
+          by : (r : Reader) → reportOf (toldBySyn (Judging (readPart r) (attempt n) y (not j))) ≡ toOwner r (observer.failedFree 4 none)
           by (station a m) = refl
           by (asker t) = refl
       go p e (matches.is-owes _ _) = absurd (held e)
@@ -696,7 +697,7 @@ begun-tells (share.reads r n xs) book h = refl
 begun-tells (share.judges r n xs matched just) book h = refl
 begun-tells (share.owes pb sb) book h = of (answerForm (book pb sb)) (answer-begins (book pb sb) .2)
   where
-    last : (y : ℕ) (zs : List ℕ) (fs : List ℕ) → cond (isSymbol y h) (tellsOut (slave fs) zs) (observer.failed 1) ≡ cond (isSymbol y h) silence (observer.failed 1)
+    last : (y : ℕ) (zs : List ℕ) (fs : List ℕ) → cond (isSymbol y h) (tellsOut (slave fs) zs) (observer.failed 1 none) ≡ cond (isSymbol y h) silence (observer.failed 1 none)
     last y [] fs = refl
     last y (z ∷ zs) fs = refl
 
@@ -738,7 +739,7 @@ module _ (x : Station) where
   owner-keeps WrongAck = stays _ _
   owner-keeps TwiceNak = stays _ _
   owner-keeps SynHeard = leaves _
-  owner-keeps PairBroken = stays _ _
+  owner-keeps (PairBroken y) = stays _ _
   owner-keeps OverLong = stays _ _
 
   sender-keeps : (p : Part) (f : Failure) → Keeps x (senderFails p f x)
@@ -816,11 +817,11 @@ module _ (x : Station) where
   outcome-keeps : (o : Outcome) (c : Cursor) (p : Part) (a : Attempt) → Keeps x (readsAs o x c p a)
   unfolding readOn
   outcome-keeps More c p a = on-keeps (c .place) (Reading c p a)
-  outcome-keeps Cut c p a = reader-keeps p PairBroken
-  outcome-keeps NoMaster c p a = reader-keeps p PairBroken
-  outcome-keeps Unusable c p a = reader-keeps p PairBroken
+  outcome-keeps Cut c p a = reader-keeps p OverLong
+  outcome-keeps NoMaster c p a = reader-keeps p OverLong
+  outcome-keeps Unusable c p a = reader-keeps p OverLong
   outcome-keeps TooLong c p a = reader-keeps p OverLong
-  outcome-keeps BrokenPair c p a = reader-keeps p PairBroken
+  outcome-keeps (BrokenPair y) c p a = reader-keeps p (PairBroken y)
   outcome-keeps (Whole matched) c p a = whole-keeps p a matched
 
 reads-keeps : (x : Station) (b : ℕ) (c : Cursor) (p : Part) (a : Attempt) → Keeps x (reads x b c p a)

@@ -138,7 +138,7 @@ module _ (x : Moment) where
   by-more NoMaster e f = f
   by-more Unusable e f = f
   by-more TooLong e f = f
-  by-more BrokenPair e f = f
+  by-more (BrokenPair y) e f = f
   by-more (Whole b) e f = f
 
   -- who is not addressed does not read on
@@ -163,7 +163,7 @@ module _ (x : Moment) where
         go NoMaster = refl
         go Unusable = refl
         go TooLong = refl
-        go BrokenPair = refl
+        go (BrokenPair y) = refl
         go (Whole c) = refl
 
     next-test : (on : Bool) (u : Share) → next (cond on u over) x ≡ cond on (next u x) over

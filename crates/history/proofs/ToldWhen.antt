@@ -3,6 +3,7 @@ use mathlib.Core.Path.{_≡_, refl}
 use mathlib.Core.Logic.{_⊎_, inl, inr, ⊎-elim}
 use mathlib.Core.Bool.{Bool, true, false, cond, false≢true}
 use mathlib.Core.List.{List, [], _∷_, _++_}
+use mathlib.Core.Option.{Option, none}
 use Prim.Native.Nat.{ℕ}
 use native.Mathlib.Omega.{arith}
 use borrow.Author.Tests.{eqb-true, eqb-false, ne-eqb, eq-eqb}
@@ -10,6 +11,7 @@ use lib.Dec.{eqb}
 use Rattle.address.specs.Master.{isMaster}
 use Rattle.wire.specs.Form.{answerForm}
 use Rattle.wire.specs.declared.part.Part.the-variants.{MasterPart, AnswerPart}
+use Rattle.wire.specs.declared.pair.WrongPair.{WrongPair}
 use Rattle.wire.specs.declared.reader.Outcome.{Outcome}
 use Rattle.wire.specs.declared.reader.Outcome.the-variants.{More, Cut, NoMaster, Unusable, TooLong, BrokenPair, Whole}
 use Rattle.wire.proofs.SymbolKind.{clash}
@@ -38,11 +40,11 @@ module _ (book : Answers) where
     told-silence =
         record { why-taken = λ e. clash (cc); why-free = λ e. absurd (false≢true e); why-given = λ e. clash (cc); why-answered = λ e. clash (cc) }
 
-    told-failed : (k : ℕ) → Reasons u h (failed k)
+    told-failed : (k : ℕ) {x : Option WrongPair} → Reasons u h (failed k x)
     told-failed k =
         record { why-taken = λ e. clash (cc); why-free = λ e. absurd (false≢true e); why-given = λ e. clash (cc); why-answered = λ e. clash (cc) }
 
-    told-failed-free : (k : ℕ) → Leaves book u h → Reasons u h (failedFree k)
+    told-failed-free : (k : ℕ) {x : Option WrongPair} → Leaves book u h → Reasons u h (failedFree k x)
     told-failed-free k w =
         record { why-taken = λ e. clash (cc); why-free = λ e. w; why-given = λ e. clash (cc); why-answered = λ e. clash (cc) }
 
@@ -97,7 +99,7 @@ module _ (book : Answers) where
       of NoMaster e i = told-silence
       of Unusable e i = told-silence
       of TooLong e i = told-silence
-      of BrokenPair e i = told-silence
+      of (BrokenPair x) e i = told-silence
       of (Whole true) e i =
           test (eqb (zzIn (xs ++ (b ∷ []))) 0xFE) (λ z. told-given (by.broadcast-read i (eqb-true (zzIn (xs ++ (b ∷ []))) 0xFE z) e)) (λ _. told-silence)
       of (Whole false) e i = test (eqb (zzIn (xs ++ (b ∷ []))) 0xFE) (λ _. told-silence) (λ _. told-silence)
@@ -110,7 +112,7 @@ module _ (book : Answers) where
       of NoMaster = told-failed 5
       of Unusable = told-failed 5
       of TooLong = told-failed 5
-      of BrokenPair = told-failed 5
+      of (BrokenPair x) = told-failed 5
       of (Whole matched) = told-silence
 
   judges-reasons : (r : Reader) (n : Time) (xs : List ℕ) (matched just : Bool) (h : Sound)
@@ -128,7 +130,7 @@ module _ (book : Answers) where
       test (eqb b 0xFF) (λ _. nak n) λ _.
       test (eqb b 0xAA) (λ i. told-failed-free 4 (by.after-4 refl (fail.syn-after-answer (eqb-true b 0xAA i)))) λ _. told-failed 2
     where
-      of : (matched : Bool) → b ≡ 0x00 → Reasons (share.judges (asker t) n xs matched just) (Symbol b) (cond matched answered (failed 2))
+      of : (matched : Bool) → b ≡ 0x00 → Reasons (share.judges (asker t) n xs matched just) (Symbol b) (cond matched answered (failed 2 none))
       of true i = told-answered (by.acknowledged i)
       of false i = told-failed 2
 

@@ -1,10 +1,12 @@
 -- The laws of this crate as tests that compute, held at every call of a run from power-on (01, "A slot" to "Release"). Assumes nothing.
 use mathlib.Core.Bool.{Bool, true, false, cond, _&&_}
 use mathlib.Core.List.{List, [], _∷_, map}
+use mathlib.Core.Option.{Option, none, some}
 use Prim.Native.Nat.{ℕ}
 use lib.Dec.{eqb, ltb}
 use lib.ListN.{getD}
 use Rattle.wire.specs.Form.{headOf, bytesOf, telegramForm, answerForm}
+use Rattle.wire.specs.declared.pair.WrongPair.{WrongPair}
 use Rattle.wire.specs.declared.part.Telegram.{Telegram}
 use Rattle.station.specs.Events.{Event, Word, tells as lined}
 use Rattle.station.specs.Events as word
@@ -18,7 +20,7 @@ use Rattle.bus.specs.Slot.{generatorSays, saidBy, spoken, slotHeard}
 use Rattle.promises.specs.Calls.{Call, afterCall, afterCalls}
 use Rattle.promises.specs.Fit.{stationAt}
 use Rattle.promises.specs.Orders.{seatsOf}
-use Rattle.history.specs.Failed.{numberIn}
+use Rattle.history.specs.Failed.{numberIn, pairIn}
 use Rattle.history.specs.Generator.{soundsCall, generates}
 use Rattle.history.specs.Held.{Who}
 use Rattle.history.specs.Lines.{lines, partIn, askedIn}
@@ -43,11 +45,18 @@ wordIn taken = 2
 wordIn free = 3
 wordIn given = 4
 wordIn answered = 5
-wordIn (failed n) = 6
-wordIn (failedFree n) = 7
+wordIn (failed n x) = 6
+wordIn (failedFree n x) = 7
+
+-- a broken pair
+abbrev pub samePair : Option WrongPair → Option WrongPair → Bool
+samePair none none = true
+samePair none (some y) = false
+samePair (some x) none = false
+samePair (some x) (some y) = eqb (x .position) (y .position) && eqb (x .symbol) (y .symbol)
 
 abbrev pub sameReport : Report → Report → Bool
-sameReport x y = eqb (wordIn x) (wordIn y) && eqb (numberIn x) (numberIn y)
+sameReport x y = eqb (wordIn x) (wordIn y) && eqb (numberIn x) (numberIn y) && samePair (pairIn x) (pairIn y)
 
 abbrev pub sameBytes : List ℕ → List ℕ → Bool
 sameBytes [] [] = true
@@ -77,7 +86,7 @@ sameLines [] (f ∷ fs) = false
 sameLines (e ∷ es) [] = false
 sameLines (e ∷ es) (f ∷ fs) =
     eqb (e .station) (f .station) && eqb (wordOf (e .word)) (wordOf (f .word)) && sameBytes (e .values) (f .values)
-    && sameBytes (e .leaving) (f .leaving) && sameLines es fs
+    && sameBytes (e .leaving) (f .leaving) && samePair (e .pair) (f .pair) && sameLines es fs
 
 abbrev pub every : {A : Type 0} → (A → Bool) → List A → Bool
 every f [] = true
@@ -112,8 +121,8 @@ handsAs taken u h t = true
 handsAs free u h t = true
 handsAs given u h t = sameBytes (telegramForm t) (partIn u h)
 handsAs answered u h t = sameBytes (answerForm (t .load)) (partIn u h) && eqb (t .zz) (askedIn u)
-handsAs (failed n) u h t = true
-handsAs (failedFree n) u h t = true
+handsAs (failed n x) u h t = true
+handsAs (failedFree n x) u h t = true
 
 -- handed-out-as-heard, likewise
 abbrev pub handsLaw : Law

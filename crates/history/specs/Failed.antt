@@ -3,8 +3,10 @@ use mathlib.Core.Path.{_≡_}
 use mathlib.Core.Logic.{_≢_}
 use mathlib.Core.Bool.{Bool, false}
 use mathlib.Core.List.{List, [], _∷_, _++_}
+use mathlib.Core.Option.{Option, none, some}
 use Prim.Native.Nat.{ℕ}
 use Rattle.wire.specs.Form.{answerForm}
+use Rattle.wire.specs.declared.pair.WrongPair.{WrongPair}
 use Rattle.wire.specs.declared.part.Part.the-variants.{AnswerPart}
 use Rattle.wire.specs.declared.part.Telegram.{Telegram}
 use Rattle.wire.specs.declared.reader.Outcome.the-variants.{TooLong, BrokenPair}
@@ -23,8 +25,19 @@ numberIn taken = 0
 numberIn free = 0
 numberIn given = 0
 numberIn answered = 0
-numberIn (failed k) = k
-numberIn (failedFree k) = k
+numberIn (failed k x) = k
+numberIn (failedFree k x) = k
+
+-- which pair was broken, where that is told
+abbrev pub pairIn : Report → Option WrongPair
+pairIn silence = none
+pairIn owns = none
+pairIn taken = none
+pairIn free = none
+pairIn given = none
+pairIn answered = none
+pairIn (failed k x) = x
+pairIn (failedFree k x) = x
 
 -- neither 00 nor FF nor AA
 pub record Another (b : ℕ) : Type 0 where
@@ -52,8 +65,12 @@ pub data Fails (book : Answers) : ℕ → Share → Sound → Type 0 where
   syn-in-answer : {t : Telegram} {n : Time} {xs : List ℕ} {b : ℕ} → b ≡ 0xAA → Fails book 4 (reads (asker t) n xs) (Symbol b)
   syn-after-answer : {t : Telegram} {n : Time} {xs : List ℕ} {matched just : Bool} {b : ℕ} → b ≡ 0xAA → Fails book 4 (judges (asker t) n xs matched just) (Symbol b)
   -- 5: the owner reads an A9 in an answer, and another symbol than 00, 01 or AA behind it
-  pair-broken : {t : Telegram} {n : Time} {xs : List ℕ} {b : ℕ} → b ≢ 0xAA → verdict AnswerPart (xs ++ (b ∷ [])) ≡ BrokenPair
+  pair-broken : {t : Telegram} {n : Time} {xs : List ℕ} {b : ℕ} {x : WrongPair} → b ≢ 0xAA → verdict AnswerPart (xs ++ (b ∷ [])) ≡ BrokenPair x
       → Fails book 5 (reads (asker t) n xs) (Symbol b)
   -- 5: the owner reads an NN above 16 in an answer
   over-long : {t : Telegram} {n : Time} {xs : List ℕ} {b : ℕ} → b ≢ 0xAA → verdict AnswerPart (xs ++ (b ∷ [])) ≡ TooLong
       → Fails book 5 (reads (asker t) n xs) (Symbol b)
+
+-- which pair is told of: the owner reads an answer, and with this symbol, not AA, a pair in it is broken
+pub data Breaks (x : WrongPair) : Share → Sound → Type 0 where
+  in-answer : {t : Telegram} {n : Time} {xs : List ℕ} {b : ℕ} → b ≢ 0xAA → verdict AnswerPart (xs ++ (b ∷ [])) ≡ BrokenPair x → Breaks x (reads (asker t) n xs) (Symbol b)

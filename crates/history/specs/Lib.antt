@@ -5,6 +5,7 @@ pub mod SinceAa
 pub mod Admission
 pub mod Observer
 pub mod Lines
+pub mod AnswerHeard
 pub mod Failed
 pub mod Reasons
 pub mod Held

@@ -2,9 +2,11 @@
 -- "Answer"). Assumes nothing.
 use mathlib.Core.Path.{_≡_}
 use mathlib.Core.List.{List, [], _∷_, _++_}
+use mathlib.Core.Option.{Option, none, some}
 use Prim.Native.Nat.{ℕ}
 use lib.ListN.{length, drop}
 use Rattle.wire.specs.Form.{bytesOf, telegramForm, answerForm}
+use Rattle.wire.specs.declared.pair.WrongPair.{WrongPair}
 use Rattle.wire.specs.declared.part.Telegram.{Telegram}
 use Rattle.station.specs.Events.{Event, Word}
 use Rattle.station.specs.Events as word
@@ -14,11 +16,15 @@ use Rattle.history.specs.Share.{Reader, station, asker, Share, over, rel
 use Rattle.history.specs.Observer.{Report, silence, owns, taken, free, given, answered, failed, failedFree}
 
 abbrev pub line : ℕ → Word → List ℕ → Event
-line a w vs = record { station = a; word = w; values = vs; leaving = [] }
+line a w vs = record { station = a; word = w; values = vs; leaving = []; pair = none }
+
+-- failed with its number, and which pair was broken, if one was
+abbrev pub failedLine : ℕ → ℕ → Option WrongPair → Event
+failedLine a n x = record { station = a; word = word.failed; values = n ∷ []; leaving = []; pair = x }
 
 -- an owner leaves the wire with this telegram
 abbrev pub freeLine : ℕ → Telegram → Event
-freeLine a t = record { station = a; word = word.free; values = []; leaving = t .qq ∷ t .zz ∷ [] }
+freeLine a t = record { station = a; word = word.free; values = []; leaving = t .qq ∷ t .zz ∷ []; pair = none }
 
 -- the lines of the station with this address, about this part: failed with its number; given with QQ, PB, SB, NN and data;
 -- answer with the slave's address, NN and data
@@ -27,8 +33,8 @@ lines a silence t = []
 lines a owns t = line a word.owns [] ∷ []
 lines a taken t = line a word.taken [] ∷ []
 lines a free t = freeLine a t ∷ []
-lines a (failed n) t = line a word.failed (n ∷ []) ∷ []
-lines a (failedFree n) t = line a word.failed (n ∷ []) ∷ freeLine a t ∷ []
+lines a (failed n x) t = failedLine a n x ∷ []
+lines a (failedFree n x) t = failedLine a n x ∷ freeLine a t ∷ []
 lines a given t = line a word.given (t .qq ∷ t .pb ∷ t .sb ∷ length (bytesOf (t .load)) ∷ bytesOf (t .load)) ∷ []
 lines a answered t = line a word.answer (t .zz ∷ length (bytesOf (t .load)) ∷ bytesOf (t .load)) ∷ []
 
@@ -69,7 +75,7 @@ leftBy silence ts = ts
 leftBy owns ts = ts
 leftBy taken ts = ts
 leftBy free ts = drop 1 ts
-leftBy (failed n) ts = ts
-leftBy (failedFree n) ts = drop 1 ts
+leftBy (failed n x) ts = ts
+leftBy (failedFree n x) ts = drop 1 ts
 leftBy given ts = ts
 leftBy answered ts = ts

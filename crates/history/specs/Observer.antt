@@ -2,13 +2,16 @@
 -- Assumes nothing.
 use mathlib.Core.Bool.{Bool, false, cond}
 use mathlib.Core.List.{List, [], _∷_, _++_}
+use mathlib.Core.Option.{Option, none}
+use mathlib.Core.Option as option
 use Prim.Native.Nat.{ℕ}
 use lib.Dec.{eqb}
 use Rattle.wire.specs.Form.{answerForm}
+use Rattle.wire.specs.declared.pair.WrongPair.{WrongPair}
 use Rattle.wire.specs.declared.part.Telegram.{Telegram}
 use Rattle.wire.specs.declared.reader.Outcome.{Outcome}
 use Rattle.wire.specs.declared.reader.Outcome.the-variants.{More, Cut, NoMaster, Unusable, TooLong, BrokenPair, Whole}
-use Rattle.station.specs.Events.{numberOf}
+use Rattle.station.specs.Events.{numberOf, pairOf}
 use Rattle.station.specs.declared.phase.Sound.{Sound}
 use Rattle.station.specs.declared.phase.Sound.the-variants.{Quiet, Symbol}
 use Rattle.station.specs.declared.phase.Told.{Told}
@@ -21,18 +24,18 @@ use Rattle.history.specs.Admission.{some, admittedBy}
 -- the lines of one station in one slot, but for the part that they speak of
 pub data Report : Type 0 where
   silence owns taken free given answered : Report
-  -- failed, with its number; and whether the station leaves the wire in that slot, free
-  failed : ℕ → Report
-  failedFree : ℕ → Report
+  -- failed, with its number and, by a broken pair, which it was; and whether the station leaves the wire in that slot, free
+  failed : ℕ → Option WrongPair → Report
+  failedFree : ℕ → Option WrongPair → Report
 
--- what is told, with the number printed
+-- what is told, with the number printed and the pair that is not
 abbrev pub reportOf : Told → Report
 reportOf Silence = silence
 reportOf Owns = owns
 reportOf Taken = taken
-reportOf (Failed f) = failed (numberOf f)
+reportOf (Failed f) = failed (numberOf f) (pairOf f)
 reportOf Free = free
-reportOf (FailedFree f) = failedFree (numberOf f)
+reportOf (FailedFree f) = failedFree (numberOf f) (pairOf f)
 reportOf Given = given
 reportOf Answered = answered
 
@@ -89,13 +92,13 @@ says a m h waits book = cond (bidding (admittedBy a m (h .earlier)) (h .now) wai
 
 -- failed 1: a sender heard anything but its own symbol; an owner leaves at once
 abbrev pub disturbed : Sender → Report
-disturbed (owner t) = failedFree 1
-disturbed (slave xs) = failed 1
+disturbed (owner t) = failedFree 1 none
+disturbed (slave xs) = failed 1 none
 
 -- failed 4: AA instead of the acknowledgement; an owner leaves at once
 abbrev pub cutShort : Sender → Report
-cutShort (owner t) = failedFree 4
-cutShort (slave xs) = failed 4
+cutShort (owner t) = failedFree 4 none
+cutShort (slave xs) = failed 4 none
 
 -- its own symbol was heard: a broadcast is taken with the last
 abbrev pub tellsOut : Sender → List ℕ → Report
@@ -105,7 +108,7 @@ tellsOut s (y ∷ ys) = silence
 -- FF the first time is no failure, a second time it is failed 3
 abbrev pub tellsNak : Time → Report
 tellsNak once = silence
-tellsNak again = failed 3
+tellsNak again = failed 3 none
 
 -- only senders and owners are told failed
 abbrev pub toOwner : Reader → Report → Report
@@ -117,36 +120,37 @@ abbrev pub handsOut : Reader → Report
 handsOut (station a m) = given
 handsOut (asker t) = answered
 
--- a whole broadcast is handed out at once if its CRC matched; failed 5: an owner reads a broken pair or an NN above 16 in an answer
+-- a whole broadcast is handed out at once if its CRC matched; failed 5: an owner reads an NN above 16 or a broken pair in an answer, and
+-- is told which pair it was (02, E6)
 abbrev pub tellsRead : Outcome → Reader → List ℕ → Report
 tellsRead More r xs = silence
-tellsRead Cut r xs = toOwner r (failed 4)
-tellsRead NoMaster r xs = toOwner r (failed 5)
-tellsRead Unusable r xs = toOwner r (failed 5)
-tellsRead TooLong r xs = toOwner r (failed 5)
-tellsRead BrokenPair r xs = toOwner r (failed 5)
+tellsRead Cut r xs = toOwner r (failed 4 none)
+tellsRead NoMaster r xs = toOwner r (failed 5 none)
+tellsRead Unusable r xs = toOwner r (failed 5 none)
+tellsRead TooLong r xs = toOwner r (failed 5 none)
+tellsRead (BrokenPair x) r xs = toOwner r (failed 5 (option.some x))
 tellsRead (Whole matched) r xs = cond (readsForAll r xs) (cond matched given silence) silence
 
 -- 00: handed out if the CRC matched, else the owner is told failed 2
 abbrev pub tellsHanded : Reader → Bool → Report
-tellsHanded r matched = cond matched (handsOut r) (toOwner r (failed 2))
+tellsHanded r matched = cond matched (handsOut r) (toOwner r (failed 2 none))
 
 -- a slave's answer begins in this slot
 abbrev pub tellsFirst : List ℕ → Sound → Report
 tellsFirst [] h = silence
-tellsFirst (y ∷ ys) h = cond (isSymbol y h) silence (failed 1)
+tellsFirst (y ∷ ys) h = cond (isSymbol y h) silence (failed 1 none)
 
 abbrev pub tellsIn : Share → Answers → Sound → Report
 tellsIn over book h = silence
 tellsIn releases book h = free
 tellsIn (sends s n y ys) book h = cond (isSymbol y h) (tellsOut s ys) (disturbed s)
 tellsIn (awaits s n) book h =
-    bySound h silence (λ b. cond (eqb b 0x00) taken (cond (eqb b 0xFF) (tellsNak n) (cond (eqb b 0xAA) (cutShort s) (failed 2))))
+    bySound h silence (λ b. cond (eqb b 0x00) taken (cond (eqb b 0xFF) (tellsNak n) (cond (eqb b 0xAA) (cutShort s) (failed 2 none))))
 tellsIn (reads r n xs) book h =
-    bySound h silence (λ b. cond (eqb b 0xAA) (toOwner r (failedFree 4)) (tellsRead (verdict (whichOf r) (xs ++ (b ∷ []))) r (xs ++ (b ∷ []))))
+    bySound h silence (λ b. cond (eqb b 0xAA) (toOwner r (failedFree 4 none)) (tellsRead (verdict (whichOf r) (xs ++ (b ∷ []))) r (xs ++ (b ∷ []))))
 tellsIn (judges r n xs matched just) book h =
     bySound h silence (λ b. cond (eqb b 0x00) (tellsHanded r matched)
-    (cond (eqb b 0xFF) (toOwner r (tellsNak n)) (cond (eqb b 0xAA) (toOwner r (failedFree 4)) (toOwner r (failed 2)))))
+    (cond (eqb b 0xFF) (toOwner r (tellsNak n)) (cond (eqb b 0xAA) (toOwner r (failedFree 4 none)) (toOwner r (failed 2 none)))))
 tellsIn (owes pb sb) book h = tellsFirst (answerForm (book pb sb)) h
 
 -- it sends its QQ in this slot, and hears its own address: it owns the wire

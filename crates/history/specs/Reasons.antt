@@ -23,8 +23,8 @@ isFree taken = false
 isFree free = true
 isFree given = false
 isFree answered = false
-isFree (failed k) = false
-isFree (failedFree k) = true
+isFree (failed k x) = false
+isFree (failedFree k x) = true
 
 -- it owns the wire: it sends its telegram, awaits what comes back, reads an answer, or releases
 abbrev pub ownsIt : Share → Bool

@@ -131,7 +131,7 @@ ifMore Cut on stop = stop
 ifMore NoMaster on stop = stop
 ifMore Unusable on stop = stop
 ifMore TooLong on stop = stop
-ifMore BrokenPair on stop = stop
+ifMore (BrokenPair x) on stop = stop
 ifMore (Whole b) on stop = stop
 
 -- a part is read, quiet skipped, until a symbol ends it; then what follows
@@ -154,7 +154,7 @@ endOf Cut = in-vain
 endOf NoMaster = in-vain
 endOf Unusable = in-vain
 endOf TooLong = in-vain
-endOf BrokenPair = in-vain
+endOf (BrokenPair x) = in-vain
 endOf (Whole matched) = wholly matched
 
 abbrev pub byEnd : End → (Bool → Share) → Share → Share
