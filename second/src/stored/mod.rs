@@ -6,6 +6,7 @@
 
 mod access;
 mod answers;
+mod broken_pair;
 mod calls;
 mod elapsed;
 mod form;
@@ -59,6 +60,7 @@ pub fn entries() -> impl Iterator<Item = &'static Entry> {
         answers::ENTRIES,
         over_long::ENTRIES,
         elapsed::ENTRIES,
+        broken_pair::ENTRIES,
     ];
     lists.into_iter().flatten()
 }
