@@ -125,7 +125,7 @@ fn quiet_slots_do_not_count() {
     ops.extend([quiet(); 12]);
     ops.push(heard(0x03));
     expect_lone(&ops, &["39 10 failed 5: 2 03"]);
-    // Quiet by itself, up to the slot before the generator's: 20 to 28.
+    // 20 to 28 quiet by themselves; the generator's SYN in 29 is heard as 05.
     let ops = [heard(0x01), heard(0xA9), run(9), heard(0x05)];
     expect_lone(&ops, &["29 10 failed 5: 1 05"]);
     // Inside a sound pair before it: 19 A9, 21 00, 22 A9.
@@ -170,7 +170,7 @@ fn slave_that_sends_it_has_no_numbers() {
         queue(&[0x10, 0x08, 0x50, 0x02]),
     ];
     let told = |rest: &[Op<'static>]| failures(&[&start, rest].concat());
-    // 02 64 A9 00 BE in 18 to 22: the 00 in 21, and 64 and 00 in 19 and 20.
+    // 02 64 A9 00 BE in 18 to 22: 00 heard as 05; 64 heard as A9, then A9.
     let lines = ["21 10 failed 5: 2 05", "21 08 failed 1"];
     assert_eq!(told(&[run(20), heard(0x05)]), lines);
     let lines = ["19 08 failed 1", "20 10 failed 5: 1 A9"];
