@@ -27,9 +27,7 @@ impl Bench {
             self.coverage.event(event);
             lines::push_event(&mut self.out, self.bus.table(), event);
         }
-        for &place in self.bus.over_long() {
-            self.coverage.over_long(place);
-        }
+        self.bus.unusable().iter().for_each(|unusable| self.coverage.unusable(unusable));
         self.bus.forget_events();
     }
 

@@ -4,7 +4,7 @@
 //! sets of stations (admitted, marked, still reading) and the generator's
 //! count, and derives from them who sends and who is told what.
 
-use crate::event::{Event, Failure, OverLong, Role, Word};
+use crate::event::{Event, Failure, Role, Unusable, Word};
 use crate::intake::{Fed, Intake};
 use crate::table::{Refusal, Table};
 use crate::transfer::{Stage, Transfer};
@@ -21,7 +21,7 @@ pub struct Bus {
     table: Table,
     transfer: Transfer,
     events: Vec<Event>,
-    over_long: Vec<OverLong>,
+    unusable: Vec<Unusable>,
     slot: u32,
     has_run: bool,
     quiet: u8,
@@ -58,7 +58,7 @@ impl Bus {
             table: Table::new(),
             transfer: Transfer::silence(),
             events: Vec::new(),
-            over_long: Vec::new(),
+            unusable: Vec::new(),
             slot: 0,
             has_run: false,
             quiet: 0,
@@ -107,14 +107,14 @@ impl Bus {
         &self.events
     }
 
-    /// Each NN above 16 that somebody in step has read.
-    pub fn over_long(&self) -> &[OverLong] {
-        &self.over_long
+    /// Each NN above 16 and each broken pair that somebody in step has read.
+    pub fn unusable(&self) -> &[Unusable] {
+        &self.unusable
     }
 
     pub fn forget_events(&mut self) {
         self.events.clear();
-        self.over_long.clear();
+        self.unusable.clear();
     }
 
     /// Masters that will send their QQ in the coming slot.
@@ -350,17 +350,18 @@ impl Bus {
         match self.transfer.heard_part.feed(symbol) {
             Fed::More => {}
             Fed::Target => self.narrow_readers(),
-            Fed::Broken => self.transfer.wind_up(),
-            Fed::OverLong => self.hear_over_long(),
+            Fed::Misplaced => self.transfer.wind_up(),
+            Fed::BrokenPair(pair) => self.hear_unusable(Failure::BrokenPair(pair)),
+            Fed::OverLong => self.hear_unusable(Failure::OverLong),
             Fed::Whole(sound) => self.part_is_over(sound),
         }
     }
 
     /// Nobody acknowledges. An owner is still there only if this is an answer:
-    /// its own NN it hears as it sent it, or it has failed.
-    fn hear_over_long(&mut self) {
-        self.over_long.push(self.transfer.over_long());
-        self.owner_fails(Failure::OverLong);
+    /// its own part it hears as it sent it, or it has failed.
+    fn hear_unusable(&mut self, failure: Failure) {
+        self.unusable.push(self.transfer.unusable(failure, self.quiet > 0));
+        self.owner_fails(failure);
         self.transfer.wind_up();
     }
 
@@ -439,12 +440,10 @@ impl Bus {
             return;
         }
         match self.transfer.heard_answer.feed(symbol) {
-            Fed::More | Fed::Target => {}
-            Fed::Broken => {
-                self.owner_fails(Failure::BrokenPair);
-                self.transfer.wind_up();
-            }
-            Fed::OverLong => self.hear_over_long(),
+            // The last two stand before NN, where an answer begins.
+            Fed::More | Fed::Target | Fed::Misplaced => {}
+            Fed::BrokenPair(pair) => self.hear_unusable(Failure::BrokenPair(pair)),
+            Fed::OverLong => self.hear_unusable(Failure::OverLong),
             Fed::Whole(sound) => {
                 self.transfer.stage = Stage::AnswerVerdict;
                 self.transfer.sound = sound;

@@ -1,11 +1,13 @@
-//! How often each event, each refusal and each NN above 16 came up, and how
-//! long the wire was held.
+//! How often each event, each refusal, each NN above 16 and each broken pair
+//! came up, and how long the wire was held.
 
-use crate::event::{Event, OverLong, Role, Tenure, Word};
+use crate::event::{Event, Failure, Place, Role, Tenure, Unusable, Word};
+use crate::intake::BrokenPair;
+use crate::wire::ESC;
 use std::fmt;
 
 /// There is no refusal 13.
-const NAMES: [&str; 42] = [
+const NAMES: [&str; 52] = [
     "owns",
     "taken-owner",
     "taken-slave",
@@ -42,6 +44,16 @@ const NAMES: [&str; 42] = [
     "over-long-broadcast",
     "over-long-answer",
     "over-long-answer-repeated",
+    "pair-part",
+    "pair-part-repeated",
+    "pair-broadcast",
+    "pair-answer",
+    "pair-answer-repeated",
+    "pair-in-crc",
+    "pair-behind-pair",
+    "pair-a9-a9",
+    "pair-after-quiet",
+    "pair-greatest",
     "left-taken",
     "left-failed",
     "left-given-one",
@@ -53,17 +65,25 @@ const NAMES: [&str; 42] = [
 /// Before refusal 1.
 const REFUSED: usize = 16;
 
-/// The first of each group; the others stand in the order of their enum.
+/// The first of each group; the others stand in the order of their numbers or
+/// of their enum.
 const FAILED_OWNER: usize = 3;
 const FAILED_SLAVE: usize = 9;
 const OVER_LONG: usize = 31;
+const PAIR: usize = 36;
+
+/// The first of what a broken pair that an owner is told may be besides.
+const PAIR_TOLD: usize = 41;
+
+/// NN and sixteen data bytes in two symbols each come before it.
+const GREATEST_POSITION: u8 = 33;
 
 /// What somebody in step is told after the owner has left.
-const LEFT: usize = 36;
+const LEFT: usize = 46;
 
 /// Owners that fail at once, and those whose count needs a second byte.
-const FREE_1: usize = 40;
-const FREE_OVER_255: usize = 41;
+const FREE_1: usize = 50;
+const FREE_OVER_255: usize = 51;
 
 /// The longest part has 39 symbols, so nothing exceeds the wire buffer.
 const UNREACHABLE: &str = "refused-6";
@@ -74,12 +94,14 @@ pub struct Coverage {
     counts: [u64; NAMES.len()],
     /// The greatest count of elapsed slots.
     longest: u32,
+    /// The positions of broken pairs that owners were told, as bits.
+    positions: u64,
 }
 
 /// By hand, because it cannot be derived for more than 32 counts.
 impl Default for Coverage {
     fn default() -> Coverage {
-        Coverage { scenarios: 0, counts: [0; NAMES.len()], longest: 0 }
+        Coverage { scenarios: 0, counts: [0; NAMES.len()], longest: 0, positions: 0 }
     }
 }
 
@@ -88,8 +110,9 @@ fn place_of(event: &Event) -> usize {
         Word::Owns => 0,
         Word::Taken(Role::Owner) => 1,
         Word::Taken(Role::Slave) => 2,
-        Word::Failed(Role::Owner, failure) => FAILED_OWNER + failure as usize,
-        Word::Failed(Role::Slave, failure) => FAILED_SLAVE + failure as usize,
+        Word::Failed(Role::Owner, Failure::OverLong) => FAILED_OWNER + 5,
+        Word::Failed(Role::Owner, failure) => FAILED_OWNER + failure.number() as usize - 1,
+        Word::Failed(Role::Slave, failure) => FAILED_SLAVE + failure.number() as usize - 1,
         Word::Free => 13,
         Word::Given { broadcast: false, .. } => 14,
         Word::Given { broadcast: true, .. } => 15,
@@ -120,6 +143,9 @@ impl Coverage {
             self.counts[place] += 1;
         }
         self.longest = self.longest.max(event.elapsed());
+        if let Word::Failed(_, Failure::BrokenPair(pair)) = event.word {
+            self.positions |= 1 << pair.position;
+        }
     }
 
     pub fn refusal(&mut self, number: u8) {
@@ -127,8 +153,30 @@ impl Coverage {
         self.counts[REFUSED + without_13 as usize] += 1;
     }
 
-    pub fn over_long(&mut self, place: OverLong) {
-        self.counts[OVER_LONG + place as usize] += 1;
+    pub fn unusable(&mut self, unusable: &Unusable) {
+        let place = unusable.place as usize;
+        let Failure::BrokenPair(pair) = unusable.failure else {
+            self.counts[OVER_LONG + place] += 1;
+            return;
+        };
+        self.counts[PAIR + place] += 1;
+        if matches!(unusable.place, Place::Answer | Place::AnswerRepeated) {
+            self.pair_told(unusable, pair);
+        }
+    }
+
+    /// An owner's broken pair counts once more for each thing that it is.
+    fn pair_told(&mut self, unusable: &Unusable, pair: BrokenPair) {
+        let told = [
+            unusable.at_check,
+            unusable.behind_pair,
+            pair.symbol == ESC,
+            unusable.after_quiet,
+            pair.position == GREATEST_POSITION,
+        ];
+        for (place, so) in told.into_iter().enumerate() {
+            self.counts[PAIR_TOLD + place] += u64::from(so);
+        }
     }
 
     pub fn add(&mut self, other: &Coverage) {
@@ -137,6 +185,7 @@ impl Coverage {
             *mine += theirs;
         }
         self.longest = self.longest.max(other.longest);
+        self.positions |= other.positions;
     }
 
     /// What a wild enough maker should have reached and has not.
@@ -144,6 +193,13 @@ impl Coverage {
         let mut missing = never(&NAMES, &self.counts);
         missing.retain(|name| *name != UNREACHABLE);
         missing
+    }
+
+    /// The same for the positions that an owner can be told.
+    pub fn missing_positions(&self) -> Vec<String> {
+        let missing =
+            (1..=GREATEST_POSITION).filter(|position| self.positions >> position & 1 == 0);
+        missing.map(|position| format!("pair-position-{position}")).collect()
     }
 }
 
@@ -161,6 +217,6 @@ impl fmt::Display for Coverage {
     fn fmt(&self, f: &mut fmt::Formatter) -> fmt::Result {
         write!(f, "coverage scenarios={}", self.scenarios)?;
         write_counts(f, &NAMES, &self.counts)?;
-        write!(f, " longest={}", self.longest)
+        write!(f, " longest={} pair-positions={}", self.longest, self.positions.count_ones())
     }
 }

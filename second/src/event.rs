@@ -1,6 +1,6 @@
 //! What the stations are told in a slot.
 
-use crate::intake::Intake;
+use crate::intake::{BrokenPair, Intake};
 
 /// A sender is either the owner of the wire or a slave with its answer. The
 /// bench line does not tell them apart; the coverage count does.
@@ -10,7 +10,8 @@ pub enum Role {
     Slave,
 }
 
-/// Why a sender or an owner is told failed. Two causes have the number 5.
+/// Why a sender or an owner is told failed. Two causes have the number 5, and
+/// one of them carries the numbers of 02 (E6).
 #[derive(Clone, Copy, PartialEq, Eq, Debug)]
 pub enum Failure {
     /// Something else was heard than the symbol sent, or quiet.
@@ -19,7 +20,7 @@ pub enum Failure {
     NoVerdict,
     RefusedTwice,
     Syn,
-    BrokenPair,
+    BrokenPair(BrokenPair),
     OverLong,
 }
 
@@ -30,15 +31,26 @@ impl Failure {
             Failure::NoVerdict => 2,
             Failure::RefusedTwice => 3,
             Failure::Syn => 4,
-            Failure::BrokenPair | Failure::OverLong => 5,
+            Failure::BrokenPair(_) | Failure::OverLong => 5,
         }
     }
 }
 
-/// Where an NN above 16 was read. Silent readers are told nothing, so this is
-/// no event; the coverage counts it.
+/// What somebody in step has read and nobody can use: an NN above 16 or a
+/// broken pair. Silent readers are told nothing, so this is no event; the
+/// coverage counts it.
+#[derive(Clone, Copy, Debug)]
+pub struct Unusable {
+    pub failure: Failure,
+    pub place: Place,
+    pub at_check: bool,
+    pub behind_pair: bool,
+    /// Quiet slots stand right before the symbol that was too much.
+    pub after_quiet: bool,
+}
+
 #[derive(Clone, Copy, PartialEq, Eq, Debug)]
-pub enum OverLong {
+pub enum Place {
     Part,
     PartRepeated,
     Broadcast,

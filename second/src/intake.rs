@@ -3,12 +3,21 @@
 //! Everybody hears the same symbols, so one intake serves all who are still
 //! in step. An answer is a part that begins at the place of NN.
 
-use crate::wire::{crc_step, is_master, ESC, MAX_DATA, SYN};
+use crate::wire::{crc_step, goes_as_pair, is_master, ESC, MAX_DATA, SYN};
 
 const QQ: usize = 0;
 const ZZ: usize = 1;
 const NN: usize = 4;
 const DATA: usize = 5;
+
+/// A pair whose second symbol is none of 00, 01 and AA (02, E6).
+#[derive(Clone, Copy, PartialEq, Eq, Debug)]
+pub struct BrokenPair {
+    /// Of the A9, in wire symbols from the part's first, which is 0.
+    pub position: u8,
+    /// The one after the A9.
+    pub symbol: u8,
+}
 
 /// What one more symbol did to the part.
 #[derive(Clone, Copy, PartialEq, Eq, Debug)]
@@ -16,9 +25,11 @@ pub enum Fed {
     More,
     /// The target address has just been read.
     Target,
-    /// Nobody can read on: a wrong QQ, an A9 out of place or a bad pair.
-    Broken,
-    /// An NN above 16, after which nobody reads on either.
+    /// Nobody can read on: a wrong QQ or an A9 out of place.
+    Misplaced,
+    /// Nobody can read on after this either.
+    BrokenPair(BrokenPair),
+    /// An NN above 16, and nobody reads on.
     OverLong,
     /// The part is over; false for a wrong CRC.
     Whole(bool),
@@ -27,6 +38,8 @@ pub enum Fed {
 #[derive(Clone, Copy)]
 pub struct Intake {
     bytes: [u8; DATA + MAX_DATA],
+    /// Where the part begins, and what is read next.
+    first: u8,
     place: u8,
     register: u8,
     escaped: bool,
@@ -34,11 +47,16 @@ pub struct Intake {
 
 impl Intake {
     pub fn master_part() -> Intake {
-        Intake { bytes: [0; DATA + MAX_DATA], place: QQ as u8, register: 0, escaped: false }
+        Intake::beginning_at(QQ)
     }
 
     pub fn answer() -> Intake {
-        Intake { place: NN as u8, ..Intake::master_part() }
+        Intake::beginning_at(NN)
+    }
+
+    fn beginning_at(first: usize) -> Intake {
+        let first = first as u8;
+        Intake { bytes: [0; DATA + MAX_DATA], first, place: first, register: 0, escaped: false }
     }
 
     pub fn feed(&mut self, symbol: u8) -> Fed {
@@ -53,7 +71,7 @@ impl Intake {
             _ => symbol != ESC,
         };
         if !allowed {
-            return Fed::Broken;
+            return Fed::Misplaced;
         }
         if place == NN && symbol as usize > MAX_DATA {
             return Fed::OverLong;
@@ -82,7 +100,9 @@ impl Intake {
             (false, plain) => plain,
             (true, 0x00) => ESC,
             (true, 0x01) => SYN,
-            (true, _) => return Fed::Broken,
+            (true, symbol) => {
+                return Fed::BrokenPair(BrokenPair { position: self.symbols_read(), symbol })
+            }
         };
         self.escaped = false;
         if at_crc {
@@ -91,6 +111,14 @@ impl Intake {
         self.bytes[place] = value;
         self.place += 1;
         Fed::More
+    }
+
+    /// How many symbols all that has been read took on the wire: one for each
+    /// byte, and one more for each that goes as a pair.
+    fn symbols_read(&self) -> u8 {
+        let read = &self.bytes[self.first as usize..self.place as usize];
+        let pairs = read.iter().filter(|&&byte| goes_as_pair(byte)).count();
+        (read.len() + pairs) as u8
     }
 
     fn nn(&self) -> usize {
@@ -146,8 +174,7 @@ impl Intake {
         let last = DATA + self.nn();
         let at_last = self.place as usize >= DATA && self.place as usize + 1 == last;
         let symbol = crc_step(self.register, 0) ^ wanted;
-        let plain = symbol != ESC && symbol != SYN;
-        (at_last && !self.escaped && plain).then_some(symbol)
+        (at_last && !self.escaped && !goes_as_pair(symbol)).then_some(symbol)
     }
 
     /// The check symbol stands next and is SYN, so it has to go as a pair.
@@ -157,6 +184,11 @@ impl Intake {
 
     pub fn in_escape(&self) -> bool {
         self.escaped
+    }
+
+    /// The last byte read came as a pair.
+    pub fn behind_pair(&self) -> bool {
+        self.place > self.first && goes_as_pair(self.bytes[self.place as usize - 1])
     }
 
     pub fn at_count(&self) -> bool {

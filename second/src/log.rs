@@ -1,7 +1,7 @@
 //! The log that 02 asks for (E1), as a plain list: there is no buffer here and
 //! no place in one, only sizes that are added up.
 
-use crate::event::{Event, Word};
+use crate::event::{Event, Failure, Word};
 use crate::scenario::push_field;
 use crate::table::Refusal;
 use std::ops::RangeInclusive;
@@ -67,6 +67,9 @@ fn tag_and_values(event: &Event) -> (u8, Vec<u8>) {
     match &event.word {
         Word::Owns => (1, vec![]),
         Word::Taken(_) => (2, vec![]),
+        Word::Failed(_, failure @ Failure::BrokenPair(pair)) => {
+            (3, vec![failure.number(), pair.position, pair.symbol])
+        }
         Word::Failed(_, failure) => (3, vec![failure.number()]),
         Word::Free => (4, event.elapsed().to_be_bytes().to_vec()),
         Word::Given { part, .. } => {

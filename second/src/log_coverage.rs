@@ -4,7 +4,7 @@ use crate::coverage::{never, write_counts};
 use crate::log::Log;
 use std::fmt;
 
-const NAMES: [&str; 13] = [
+const NAMES: [&str; 15] = [
     "none-gone",
     "gone",
     "several-for-one",
@@ -15,6 +15,8 @@ const NAMES: [&str; 13] = [
     "end-before-value",
     "end-in-value",
     "end-after-record",
+    "end-before-numbers",
+    "end-in-numbers",
     "refused-14",
     "refused-15",
     "refused-16",
@@ -28,7 +30,12 @@ const FILLED: usize = 4;
 /// The first of four: after the tag, in the length, before and in the value.
 const END_INSIDE: usize = 5;
 const END_AFTER_RECORD: usize = 9;
-const REFUSED_14: usize = 10;
+/// The first of two: before and between the numbers of a broken pair.
+const END_AT_NUMBERS: usize = 10;
+const REFUSED_14: usize = 12;
+
+/// Tag and length of a failed record that ends with a broken pair's numbers.
+const WITH_NUMBERS: [u8; 3] = [3, 0, 8];
 
 /// What came up in one scenario.
 #[derive(Default)]
@@ -45,7 +52,8 @@ impl Reached {
 
     /// Notes the record and looks at what went for it.
     pub fn note(&mut self, log: &mut Log, record: Vec<u8>) {
-        let size = record.len();
+        self.end_of_buffer(log.length(), &record);
+        self.bytes += record.len();
         let before = log.gone();
         log.note(record);
         let gone = log.gone() - before;
@@ -53,14 +61,16 @@ impl Reached {
         self.flags[SEVERAL_FOR_ONE] |= gone >= 2;
         self.flags[FOUR_FOR_ONE] |= gone >= 4;
         self.flags[FILLED] |= log.bytes_held() == log.length();
-        self.end_of_buffer(log.length(), size);
-        self.bytes += size;
     }
 
     /// Where the end of a buffer falls in which records lie one behind the
     /// other and go on at its start.
-    fn end_of_buffer(&mut self, length: usize, size: usize) {
+    fn end_of_buffer(&mut self, length: usize, record: &[u8]) {
         let to_end = length - self.bytes % length;
+        let size = record.len();
+        if record.starts_with(&WITH_NUMBERS) && (size - 2..size).contains(&to_end) {
+            self.flags[END_AT_NUMBERS + to_end - (size - 2)] = true;
+        }
         if to_end < size {
             self.flags[END_INSIDE + (to_end - 1).min(3)] = true;
         } else if to_end == size {

@@ -162,6 +162,7 @@ fn show_coverage(count: u64, seed: u64) -> io::Result<ExitCode> {
     println!("{total}\n{logs}\n{values}");
     let mut missing: Vec<String> =
         [total.missing(), logs.missing()].concat().iter().map(|name| name.to_string()).collect();
+    missing.extend(total.missing_positions());
     missing.extend(values.missing());
     if !missing.is_empty() {
         println!("never: {}", missing.join(" "));

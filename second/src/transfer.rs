@@ -1,6 +1,6 @@
 //! The transfer under way, as an onlooker at the wire writes it down.
 
-use crate::event::{OverLong, Tenure};
+use crate::event::{Failure, Place, Tenure, Unusable};
 use crate::intake::Intake;
 use crate::wire::{Wire, BROADCAST};
 
@@ -144,14 +144,28 @@ impl Transfer {
         };
     }
 
-    /// What an NN above 16 stands in, if it is read now.
-    pub fn over_long(&self) -> OverLong {
+    /// What has just been read and cannot be used, and where it stands.
+    pub fn unusable(&self, failure: Failure, after_quiet: bool) -> Unusable {
+        let read = match self.stage {
+            Stage::Answer => &self.heard_answer,
+            _ => &self.heard_part,
+        };
+        Unusable {
+            failure,
+            place: self.place(),
+            at_check: read.at_check(),
+            behind_pair: read.behind_pair(),
+            after_quiet,
+        }
+    }
+
+    fn place(&self) -> Place {
         match self.stage {
-            Stage::Answer if self.answer_repeated => OverLong::AnswerRepeated,
-            Stage::Answer => OverLong::Answer,
-            _ if self.heard_part.target() == BROADCAST => OverLong::Broadcast,
-            _ if self.part_repeated => OverLong::PartRepeated,
-            _ => OverLong::Part,
+            Stage::Answer if self.answer_repeated => Place::AnswerRepeated,
+            Stage::Answer => Place::Answer,
+            _ if self.heard_part.target() == BROADCAST => Place::Broadcast,
+            _ if self.part_repeated => Place::PartRepeated,
+            _ => Place::Part,
         }
     }
 

@@ -35,6 +35,11 @@ pub fn class(symbol: u8) -> u8 {
     symbol & 0x0F
 }
 
+/// In data and in the check symbol.
+pub fn goes_as_pair(value: u8) -> bool {
+    matches!(value, SYN | ESC)
+}
+
 /// One feeding of the check register, bit by bit: eight multiplications by x,
 /// each reduced at once, then the symbol is added.
 pub fn crc_step(register: u8, symbol: u8) -> u8 {

@@ -2,6 +2,7 @@
 //! transfers that prefers what carries a transfer on, and disturbs it where
 //! it stands.
 
+use super::broken_pair::{break_pair, broken_answer};
 use super::draft::Draft;
 use crate::intake::Intake;
 use crate::scenario::Op;
@@ -283,8 +284,13 @@ fn slaves_answer(draft: &mut Draft) {
     let mut copy = draft.bench.bus.clone();
     let sent = copy.sent().unwrap_or(0);
     let transfer = copy.transfer();
-    let left = (transfer.reply.symbols().len() - transfer.reply_sent) as u32;
+    let coming = &transfer.reply.symbols()[transfer.reply_sent..];
+    let left = coming.len() as u32;
     let at_count = transfer.heard_answer.at_count();
+    let to_pair = coming.iter().position(|&symbol| symbol == ESC);
+    if let Some(before) = to_pair.filter(|_| draft.random.percent(12)) {
+        return break_pair(draft, before as u32);
+    }
     let symbol = match draft.random.below(100) {
         0..=54 => return draft.run(left),
         55..=69 => {
@@ -295,6 +301,7 @@ fn slaves_answer(draft: &mut Draft) {
         75..=77 => SYN,
         78..=82 => ESC,
         83..=87 if at_count => over_long(draft),
+        88..=91 if at_count => return broken_answer(draft),
         83..=89 => sent ^ 0x01,
         90..=95 => sent,
         _ => draft.noise(),
@@ -305,7 +312,11 @@ fn slaves_answer(draft: &mut Draft) {
 
 /// The owner waits for an answer that no attached slave gives any more.
 fn foreign_answer(draft: &mut Draft) {
-    let answer = draft.bench.bus.transfer().heard_answer;
+    let transfer = draft.bench.bus.transfer();
+    let (answer, repeated) = (transfer.heard_answer, transfer.answer_repeated);
+    if answer.at_count() && draft.random.percent(if repeated { 30 } else { 12 }) {
+        return broken_answer(draft);
+    }
     let filler = steered(draft, &answer).unwrap_or_else(|| answer_filler(draft));
     let sound = answer.next_sound(0, 0, filler);
     let symbol = match draft.random.below(100) {

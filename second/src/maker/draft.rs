@@ -4,7 +4,7 @@
 use crate::bench::Bench;
 use crate::random::Random;
 use crate::scenario::{self, Op};
-use crate::wire::{is_master, slave_of, Wire, BROADCAST, ESC, MAX_DATA, NAK, SYN};
+use crate::wire::{goes_as_pair, is_master, slave_of, Wire, BROADCAST, ESC, MAX_DATA, NAK, SYN};
 
 const HALVES: [u8; 5] = [0x0, 0x1, 0x3, 0x7, 0xF];
 const PBS: [u8; 3] = [0x05, 0x07, 0x50];
@@ -229,7 +229,7 @@ impl Draft {
         let last = data.len() - 1;
         for value in 0..=0xFF {
             data[last] = value;
-            if !matches!(value, SYN | ESC) && part(data).symbols().ends_with(&pair) {
+            if !goes_as_pair(value) && part(data).symbols().ends_with(&pair) {
                 return;
             }
         }

@@ -22,7 +22,8 @@ pub fn length(random: &mut Random, sizes: &[usize]) -> String {
         0..=4 => return random.pick(&OUTSIDE).to_string(),
         5..=64 => short(random),
         65..=76 => near(random, sizes.iter().sum()),
-        77..=91 => {
+        77..=84 => at_numbers(random, sizes),
+        85..=91 => {
             let latest = random.below(sizes.len() as u32 + 1) as usize;
             near(random, sizes[latest..].iter().sum())
         }
@@ -39,6 +40,25 @@ fn short(random: &mut Random) -> u64 {
 /// What just fits, one byte less or one more.
 fn near(random: &mut Random, size: usize) -> u64 {
     let length = (size as u64 + random.below(3) as u64).saturating_sub(1);
+    within_limits(random, length)
+}
+
+/// The buffer's end two bytes or one before that of a record of 11: a failed 5
+/// with a broken pair's numbers, or an answer with one data byte.
+fn at_numbers(random: &mut Random, sizes: &[usize]) -> u64 {
+    let mut end = 0;
+    let mut ends = vec![0];
+    for &size in sizes {
+        end += size as u64;
+        if size == 11 {
+            ends.push(end);
+        }
+    }
+    let length = random.pick(&ends).saturating_sub(random.between(1, 2) as u64);
+    within_limits(random, length)
+}
+
+fn within_limits(random: &mut Random, length: u64) -> u64 {
     if LENGTHS.contains(&length) {
         length
     } else {

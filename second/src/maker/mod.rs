@@ -4,6 +4,7 @@
 
 mod aimed;
 mod blind;
+mod broken_pair;
 mod draft;
 mod fields;
 mod length;

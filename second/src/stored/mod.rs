@@ -6,6 +6,7 @@
 
 mod access;
 mod answers;
+mod broken_pair;
 mod calls;
 mod elapsed;
 mod form;
@@ -59,6 +60,7 @@ pub fn entries() -> impl Iterator<Item = &'static Entry> {
         answers::ENTRIES,
         over_long::ENTRIES,
         elapsed::ENTRIES,
+        broken_pair::ENTRIES,
     ];
     lists.into_iter().flatten()
 }
@@ -166,18 +168,42 @@ mod tests {
         text::bytes(entries().find(|entry| entry.name == name).unwrap().hex)
     }
 
+    /// The counts of a scenario whose names begin so.
+    fn counts_of(group: &str, name: &str) -> String {
+        let line = bench::run(&bytes_of(name)).1.to_string();
+        let values = line.split(group).skip(1).map(|count| count.split(['=', ' ']));
+        values.map(|mut words| words.nth(1).unwrap().to_string()).collect::<Vec<_>>().join(" ")
+    }
+
     #[test]
     fn over_long_is_counted_by_its_place() {
-        let counts = |name| {
-            let line = bench::run(&bytes_of(name)).1.to_string();
-            let values = line.split(" over-long-").skip(1).map(|count| count.split(['=', ' ']));
-            values.map(|mut words| words.nth(1).unwrap().to_string()).collect::<Vec<_>>().join(" ")
-        };
+        let counts = |name| counts_of(" over-long-", name);
         assert_eq!(counts("over-long-to-slave"), "1 0 0 0 0");
         assert_eq!(counts("over-long-in-repeat"), "0 1 0 0 0");
         assert_eq!(counts("over-long-broadcast-ff"), "0 0 1 0 0");
         assert_eq!(counts("over-long-answer-ff"), "0 0 0 1 0");
         assert_eq!(counts("over-long-answer-in-repeat"), "0 0 0 0 2");
+    }
+
+    /// Part, its repetition, broadcast, answer, its repetition; in the CRC,
+    /// behind a pair, A9 A9, after quiet, greatest; different positions.
+    #[test]
+    fn broken_pairs_are_counted() {
+        let counts = |name| counts_of(" pair-", name);
+        assert_eq!(counts("reading-ends-silent"), "2 0 0 0 0 0 0 0 0 0 0");
+        assert_eq!(counts("broken-pair-owner-failed-1"), "1 0 0 0 0 0 0 0 0 0 0");
+        assert_eq!(counts("broken-pair-in-repeated-part"), "0 1 0 0 0 0 0 0 0 0 0");
+        assert_eq!(counts("broken-pair-broadcast"), "0 0 1 0 0 0 0 0 0 0 0");
+        assert_eq!(counts("answer-failed-5"), "0 0 0 1 0 0 0 0 0 0 1");
+        assert_eq!(counts("broken-pair-in-repeat"), "0 0 0 0 2 0 0 0 0 0 2");
+        assert_eq!(counts("broken-pair-crc"), "0 0 0 2 0 2 0 0 0 0 2");
+        assert_eq!(counts("broken-pair-behind-pair"), "0 0 0 2 0 1 2 0 0 0 2");
+        assert_eq!(counts("broken-pair-a9-a9"), "0 0 0 1 0 0 0 1 0 0 1");
+        assert_eq!(counts("broken-pair-quiet"), "0 0 0 1 0 0 0 0 1 0 1");
+        assert_eq!(counts("broken-pair-greatest"), "0 0 0 1 0 1 1 0 0 1 1");
+        assert_eq!(counts("broken-pair-four-times"), "0 0 0 4 0 0 0 0 0 0 1");
+        assert_eq!(counts("answer-failed-4-after-a9"), "0 0 0 0 0 0 0 0 0 0 0");
+        assert_eq!(counts("over-long-answer-a9-aa"), "0 0 0 0 0 0 0 0 0 0 0");
     }
 
     #[test]
@@ -189,12 +215,12 @@ mod tests {
         let left = "left-taken=1 left-failed=1 left-given-one=2 left-given-broadcast=0";
         assert_eq!(
             counts("elapsed-slave-after-owner"),
-            format!("{left} free-1=0 free-over-255=0 longest=11")
+            format!("{left} free-1=0 free-over-255=0 longest=11 pair-positions=0")
         );
         let none = "left-taken=0 left-failed=0 left-given-one=0 left-given-broadcast=0";
-        let long = format!("{none} free-1=0 free-over-255=1 longest=256");
+        let long = format!("{none} free-1=0 free-over-255=1 longest=256 pair-positions=0");
         assert_eq!(counts("elapsed-quiet-answer"), long);
-        let at_once = format!("{none} free-1=1 free-over-255=0 longest=1");
+        let at_once = format!("{none} free-1=1 free-over-255=0 longest=1 pair-positions=0");
         assert_eq!(counts("access-mark-of-a-loser"), at_once);
     }
 

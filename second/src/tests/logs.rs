@@ -1,5 +1,6 @@
 //! The log: its limits, its records and what goes. Sizes: owns and taken 8
-//! bytes, failed 9, free 12, given 12 and the data, answer 10 and the data.
+//! bytes, failed 9, or 11 with a broken pair's numbers, free 12, given 12 and
+//! the data, answer 10 and the data.
 
 use super::*;
 use crate::bus::Bus;
@@ -90,6 +91,25 @@ fn failed_has_its_number() {
         "03 00 06 00 00 00 1A 10 04",
         "04 00 09 00 00 00 1A 10 00 00 00 0F",
     ];
+    expect_log(64, &ops, &lines);
+}
+
+#[test]
+fn broken_pair_has_its_numbers() {
+    // 02 A9 01 A9 05 in 18 to 22, then, in 31, NN 17, which has none.
+    let mut ops = vec![master(0x10), queue(&TELEGRAM), queue(&TELEGRAM), run(16), heard(0x00)];
+    ops.extend(all_heard(&[0x02, 0xA9, 0x01, 0xA9, 0x05]));
+    ops.extend([run(7), heard(0x00), heard(0x11)]);
+    let lines = [
+        "01 00 05 00 00 00 0B 10",
+        "02 00 05 00 00 00 11 10",
+        "03 00 08 00 00 00 16 10 05 03 05",
+        "04 00 09 00 00 00 17 10 00 00 00 0C",
+        "01 00 05 00 00 00 18 10",
+        "02 00 05 00 00 00 1E 10",
+        "03 00 06 00 00 00 1F 10 05",
+    ];
+    // 8, 8, 11, 12, 8, 8, 9: 64 bytes.
     expect_log(64, &ops, &lines);
 }
 

@@ -4,6 +4,7 @@
 
 mod access;
 mod answers;
+mod broken_pair;
 mod elapsed;
 mod exact;
 mod foreign;
