@@ -1,5 +1,6 @@
 pub mod DiaryReadsBack
 pub mod EachTold
+pub mod FailedRecords
 pub mod Formed
 pub mod Going
 pub mod Holds
