@@ -15,7 +15,7 @@ use Rattle.wire.specs.declared.reader.Outcome.{Outcome}
 use Rattle.wire.specs.declared.reader.Outcome.the-variants.{More, Cut, NoMaster, Unusable, TooLong, BrokenPair, Whole}
 use Rattle.station.specs.declared.phase.Sound.{Sound}
 use Rattle.station.specs.declared.phase.Sound.the-variants.{Quiet, Symbol}
-use Rattle.history.specs.AnswerHeard.{partOut, BeforeAnswer, taken, refused, AnswerHeard}
+use Rattle.history.specs.AnswerHeard.{partOut, taken, refused, AnswerHeard}
 use Rattle.history.specs.Moments.{Moment, bySound, isSymbol, symbolsIn}
 use Rattle.history.specs.Observer.{shareAfter}
 use Rattle.history.specs.Share.{Time, once, again, owner, slave, station, asker, Share, over, releases, sends, awaits, reads, judges, owes, toAll, zzIn, forIt, sent, ifMore, End, wholly, in-vain, byEnd, handed, wholeRead, readSoFar, readEnded}

@@ -27,7 +27,7 @@ use Rattle.bus.specs.Bus.{poweredOn, attachedTo, turnAt}
 use Rattle.bus.specs.Slot.{slotHeard}
 use Rattle.promises.specs.Calls.{Call, afterCalls, ByteCalls}
 use Rattle.promises.specs.Fit.{stationAt}
-use Rattle.history.specs.AnswerHeard.{AnswerHeard, BrokenIn, PairIsThere}
+use Rattle.history.specs.AnswerHeard.{BrokenIn, PairIsThere}
 use Rattle.history.specs.Failed.{pairIn, Breaks, in-answer}
 use Rattle.history.specs.Observer.{reportOf, shareOf}
 use Rattle.history.specs.Seen.{seen, stationBy}

@@ -1,6 +1,6 @@
 -- What holds of everything that a station is told holds of everything that a slot tells. Assumes nothing.
 use mathlib.Core.Bool.{Bool, true, false, cond}
-use mathlib.Core.List.{List, [], _∷_}
+use mathlib.Core.List.{List, _∷_}
 use Rattle.laws.proofs.FirstIs.{Every, none, next, every-append}
 use Rattle.station.specs.Events.{Event, tells}
 use Rattle.station.specs.declared.station.Turn.{Turn}

@@ -10,7 +10,7 @@ use Rattle.bus.specs.Events.{Line, line}
 use Rattle.bus.specs.declared.time.Time.{Time}
 use Rattle.log.specs.ReadBack.{Entry}
 use Rattle.log.specs.Record.{fourBytes, valueOf, recordOf}
-use Rattle.log.proofs.ReadsBack.{entryOf, one-form}
+use Rattle.log.proofs.ReadsBack.{one-form}
 
 -- two failures noted at one time: from one record the same number, and the same pair or none
 pub failures-apart : (w : Time) (a b : ℕ) (f g : Failure) → w .slot < 2 ^ 32 → w .elapsed < 2 ^ 32

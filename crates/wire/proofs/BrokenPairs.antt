@@ -1,10 +1,10 @@
 -- Which pair was broken (02, E6): what a reader says of it is there, among the symbols that it was given. Assumes nothing.
-use mathlib.Core.Path.{_≡_, sym, _∙_}
+use mathlib.Core.Path.{_≡_, sym}
 use mathlib.Core.List.{List, [], _∷_, _++_, append-assoc}
 use Prim.Native.Nat.{ℕ}
 use Rattle.wire.specs.BrokenPairs.{StopsAt}
-use Rattle.wire.specs.Reader.{startOf, more, readOne}
-use Rattle.wire.specs.Reading.{Sixteen, Read, readAll}
+use Rattle.wire.specs.Reader.{startOf, more}
+use Rattle.wire.specs.Reading.{Sixteen, readAll}
 use Rattle.wire.specs.declared.pair.WrongPair.{WrongPair}
 use Rattle.wire.specs.declared.part.Part.{Part}
 use Rattle.wire.specs.declared.part.Telegram.{Telegram}

@@ -13,7 +13,7 @@ use lib.Seq.{take-suc-set}
 use Rattle.crc.specs.Crc.{crcStep, crcOf}
 use Rattle.crc.proofs.Feed.{of-snoc}
 use Rattle.address.specs.Master.{isMaster}
-use Rattle.wire.specs.Pair.{expandOne, expand, wrongPair, undo}
+use Rattle.wire.specs.Pair.{expandOne, expand, undo}
 use Rattle.wire.specs.Form.{covered, bytesOf}
 use Rattle.wire.specs.Reader.{withQq, withZz, withPb, withSb, withNn, withByte, ended, more, onward, placeAfter, readQq, readNn, readByte, dataAs, readData, crcAs, readCrc, readHead, readAt}
 use Rattle.wire.specs.Reading.{Sixteen, Usable, BrokenAt, NoSyn, none, next, before}

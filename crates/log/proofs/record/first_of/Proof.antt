@@ -1,6 +1,5 @@
 -- `log::record::first_of` meets its contract. Assumes nothing.
 use mathlib.Core.Path.{_∙_}
-use mathlib.Core.List.{[], _∷_}
 use Rattle.station.specs.Events.{failedEvent, tells}
 use Rattle.log.specs.Note.{recordsOf, passRecords}
 use Rattle.log.proofs.Records.{one-noted, owns-noted, taken-noted, free-noted, two-noted}
