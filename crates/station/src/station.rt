@@ -31,8 +31,9 @@ pub struct Station {
 
 // The station after a slot, and what it is told.
 pub struct Turn {
-    pub station: Station,
+    // First: behind the large station it makes a slot up to 18 percent slower.
     pub told: Told,
+    pub station: Station,
 }
 
 impl Station {
