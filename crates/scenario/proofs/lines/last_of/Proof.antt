@@ -44,7 +44,7 @@ answer-requires c κs = search needs
 
 -- owning a station tells that the array of its part has 16 bytes
 sixteen : (c : tie.Start) → length (c .args .t .station .part .load .bytes) ≡ 16
-sixteen c = search (needs, c .good .1 .1 .1 .0 .1 .1 .0 .1 .1 .1 .1 .1 .1 .1 .1 .0)
+sixteen c = search (needs, c .good .1 .1 .1 .0 .1 .1 .1 .0 .1 .1 .1 .1 .1 .1 .1 .1 .0)
 
 returns : tie.Need-returns
 unfolding passText tells textOf
