@@ -4,6 +4,7 @@ use Prim.Native.Nat.{ℕ, suc, _/_, _%_}
 use mathlib.Core.Bool.{cond}
 use mathlib.Core.List.{List, [], _∷_}
 use lib.Dec.{eqb}
+use lib.ListN.{getD}
 use Rattle.address.specs.declared.Index.{Index}
 use Rattle.address.specs.declared.Index.the-variants.{At, Nowhere}
 
@@ -19,6 +20,10 @@ placeFrom i x (y ∷ ys) = cond (eqb x y) (At i) (placeFrom (suc i) x ys)
 -- the place of a half in the row
 unfoldable pub halfIndex : ℕ → Index
 halfIndex half = placeFrom 0 half row
+
+-- the half in a place of the row, 0 past its end
+abbrev pub halfAt : ℕ → ℕ
+halfAt i = getD row i 0
 
 abbrev pub lowHalf : ℕ → ℕ
 lowHalf a = a % 16

@@ -2,8 +2,7 @@
 -- Assumes nothing.
 use Prim.Native.Nat.{ℕ, _+_, _*_, _/_, _%_}
 use mathlib.Core.Bool.{Bool, true, false, _&&_}
-use lib.ListN.{getD}
-use Rattle.address.specs.Half.{row, halfIndex, lowHalf, highHalf, classOf, subOf}
+use Rattle.address.specs.Half.{halfIndex, halfAt, lowHalf, highHalf, classOf, subOf}
 use Rattle.address.specs.declared.Index.{Index}
 use Rattle.address.specs.declared.Index.the-variants.{At, Nowhere}
 use Rattle.address.specs.declared.Rank.{Rank}
@@ -36,4 +35,4 @@ rankOf a = rankAt (classOf a) (subOf a)
 
 -- the master of a rank below 25: its class index is r / 5, its sub-address index r % 5
 unfoldable pub masterAt : ℕ → ℕ
-masterAt r = 16 * getD row (r % 5) 0 + getD row (r / 5) 0
+masterAt r = 16 * halfAt (r % 5) + halfAt (r / 5)

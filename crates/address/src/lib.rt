@@ -1,7 +1,7 @@
 // Addresses of the bus: class, sub-address and rank of a master, its slave address, and the role of each address (01, "Addresses").
 ghost use mathlib.Core.Path.{_≡_};
-ghost use Rattle.address.specs.Half.{halfIndex, classOf, subOf};
-ghost use Rattle.address.specs.Master.{rankOf, isMaster, slaveOf};
+ghost use Rattle.address.specs.Half.{halfIndex, halfAt, classOf, subOf};
+ghost use Rattle.address.specs.Master.{rankOf, masterAt, isMaster, slaveOf};
 ghost use Rattle.address.specs.Role.{roleOf};
 
 // The place of a half in the row 0, 1, 3, 7, F.
@@ -24,7 +24,7 @@ pub enum Role {
     Never,
 }
 
-// The row stands here and nowhere else in the code.
+// The row stands here and, the other way round, in `half_at`, and nowhere else in the code.
 pub fn half_index(half: u8) -> Index
     ensures { λ r. ⌜ r ≡ halfIndex half ⌝ }
 {
@@ -35,6 +35,20 @@ pub fn half_index(half: u8) -> Index
         0x7 => Index::At(3),
         0xF => Index::At(4),
         _ => Index::Nowhere,
+    }
+}
+
+// The half in a place of the row, 0 past its end.
+fn half_at(index: u32) -> u8
+    ensures { λ r. ⌜ r ≡ halfAt index ⌝ }
+{
+    match index {
+        0 => 0x0,
+        1 => 0x1,
+        2 => 0x3,
+        3 => 0x7,
+        4 => 0xF,
+        _ => 0x0,
     }
 }
 
@@ -63,6 +77,13 @@ pub fn rank_of(address: u8) -> Rank
         return Rank::Nobody;
     };
     Rank::Of(5 * class + sub)
+}
+
+// The master of a rank, the way back from `rank_of`.
+pub fn master_at(rank: u32) -> u8
+    ensures { λ r. ⌜ r ≡ masterAt rank ⌝ }
+{
+    16 * half_at(rank % 5) + half_at(rank / 5)
 }
 
 // An address whose halves are both in the row has a rank, and no other has.
