@@ -30,7 +30,8 @@ use Rattle.bus.specs.Attach.{newcomer, noSuchAddress, occupied, takesSea
 use Rattle.bus.specs.Bus.{seats, unseated, attachedTo, attachedTurns, turnAt, withTurn, refusedBy, done}
 use Rattle.bus.specs.Conditions.{First, MasterAt, SlaveAt}
 use Rattle.bus.specs.Find.{firstOf}
-use Rattle.bus.specs.Queue.{noTarget, noCommand, holds, queuesTelegram, queuesFrom, queuesAt, queues}
+use Rattle.bus.specs.Queue.{noTarget, noCommand, holds, queuesTelegram, queuesFrom, queuesAt, queues, withSource}
+use Rattle.bus.specs.Waiting.{withBid}
 use Rattle.bus.specs.Reply.{withReplies, writes, repliesFrom, repliesAt, replies}
 use Rattle.bus.proofs.Reflects.{first-holds}
 use Rattle.bus.proofs.RefusedQueue.{found-attached, turn-found, master-reflects}
@@ -68,6 +69,7 @@ pub record Seated (b : Bus) (a : ℕ) (master : Bool) (c : Bus) : Type 0 where
   pub ran : c .ran ≡ b .ran
   pub quiet : c .quiet ≡ b .quiet
   pub began : c .began ≡ b .began
+  pub waiting : c .waiting ≡ b .waiting
 
 pub attach-done : (b : Bus) (a : ℕ) (master : Bool) → attaches b a master .verdict ≡ Done → Seated b a master (attaches b a master .bus)
 unfolding attaches takesSeat
@@ -85,11 +87,12 @@ attach-done b a master e =
       ran = ap (λ (x : Bus). x .ran) same;
       quiet = ap (λ (x : Bus). x .quiet) same;
       began = ap (λ (x : Bus). x .began) same;
+      waiting = ap (λ (x : Bus). x .waiting) same;
     }
 
 -- ---- queue and reply
 
--- one station's turn is t, and everything else is as it was
+-- one station's turn is t, and everything else is as it was, but for who waits
 pub record OneTurn (b : Bus) (i : ℕ) (t : Turn) (c : Bus) : Type 0 where
   pub here : c .turns ≡ set (b .turns) i t
   pub others : (j : ℕ) → j ≢ i → turnAt c j ≡ turnAt b j
@@ -99,9 +102,14 @@ pub record OneTurn (b : Bus) (i : ℕ) (t : Turn) (c : Bus) : Type 0 where
   pub quiet : c .quiet ≡ b .quiet
   pub began : c .began ≡ b .began
 
-one-turn : (b c : Bus) (i : ℕ) (t : Turn) → c ≡ withTurn b i t → OneTurn b i t c
-unfolding withTurn turnAt
-one-turn b c i t same =
+-- the bus with that turn, and with these bits
+abbrev withBits : Bus → ℕ → Turn → ℕ → Bus
+withBits b i t bits =
+    record { turns = set (b .turns) i t; count = b .count; slot = b .slot; ran = b .ran; quiet = b .quiet; began = b .began; waiting = bits }
+
+one-turn : (b c : Bus) (i : ℕ) (t : Turn) (bits : ℕ) → c ≡ withBits b i t bits → OneTurn b i t c
+unfolding turnAt
+one-turn b c i t bits same =
     record {
       here = ap (λ (x : Bus). x .turns) same;
       others = λ j h. ap (λ (x : Bus). turnAt x j) same ∙ getD-set-other (b .turns) i j t unseated h;
@@ -119,17 +127,19 @@ holding t o = record { station = withOutbox (t .station) (t .station .phase) o; 
 abbrev pub answering : Turn → ReplyBook → Turn
 answering t r = record { station = withReplies (t .station) r; told = t .told }
 
--- the source, at place i, holds the telegram behind the others; everything else is as it was
+-- the source, at place i, holds the telegram behind the others, and the bit of its rank is set while it is admitted; everything
+-- else is as it was
 pub record Queued (b : Bus) (qq : ℕ) (t : Telegram) (c : Bus) : Type 0 where
   pub place : ℕ
   pub attached : place < attachedTo b
   pub source : First (MasterAt qq) (turnAt b place) (attachedTurns b)
   pub accepts : accepted (turnAt b place .station .outbox) t .taken ≡ true
   pub changed : OneTurn b place (holding (turnAt b place) (accepted (turnAt b place .station .outbox) t .outbox)) c
+  pub waits : c .waiting ≡ withBid (b .waiting) (holding (turnAt b place) (accepted (turnAt b place .station .outbox) t .outbox))
 
 pub queue-done : (b : Bus) (qq zz pb sb : ℕ) (bytes : List ℕ) → queues b qq zz pb sb bytes .verdict ≡ Done
     → Queued b qq (record { qq = qq; zz = zz; pb = pb; sb = sb; load = loadOf bytes }) (queues b qq zz pb sb bytes .bus)
-unfolding queues queuesFrom queuesTelegram holds
+unfolding queues queuesFrom queuesTelegram holds withSource
 queue-done b qq zz pb sb bytes e = go (firstOf b (Master qq)) refl e
   where
     telegram : ℕ → Telegram
@@ -145,16 +155,15 @@ queue-done b qq zz pb sb bytes e = go (firstOf b (Master qq)) refl e
         let r = passed (ltb 16 (length bytes)) b _ _ (q .0) in
         let s = passed (ltb room (length (telegramForm (telegram (turnAt b i .station .address))))) b _ _ (r .0) in
         let t = taken-last (accepted (turnAt b i .station .outbox) (telegram (turnAt b i .station .address)) .taken) b _ _ (s .0) in
+        let then : ℕ → Turn = λ a. holding (turnAt b i) (accepted (turnAt b i .station .outbox) (telegram a) .outbox) in
+        let same = subst (λ (a : ℕ). queuesFrom b i zz pb sb bytes .bus ≡ withBits b i (then a) (withBid (b .waiting) (then a))) own (p .1 ∙ q .1 ∙ r .1 ∙ s .1 ∙ t .1) in
         record {
           place = i;
           attached = found-attached (Master qq) b i found;
           source = source;
           accepts = rw own at (t .0);
-          changed =
-              one-turn b _ i _
-              (subst (λ (a : ℕ). queuesFrom b i zz pb sb bytes .bus ≡ withTurn b i (holding (turnAt b i) (accepted (turnAt b i .station .outbox) (telegram a) .outbox)))
-              own
-              (p .1 ∙ q .1 ∙ r .1 ∙ s .1 ∙ t .1));
+          changed = one-turn b _ i _ _ same;
+          waits = ap (λ (x : Bus). x .waiting) same;
         }
     go Missing found e = not-done b _ e
 
@@ -165,10 +174,11 @@ pub record Replied (b : Bus) (slave : ℕ) (r : Reply) (c : Bus) : Type 0 where
   pub station : First (SlaveAt slave) (turnAt b place) (attachedTurns b)
   pub accepts : written (turnAt b place .station .replies) r .taken ≡ true
   pub changed : OneTurn b place (answering (turnAt b place) (written (turnAt b place .station .replies) r .book)) c
+  pub waits : c .waiting ≡ b .waiting
 
 pub reply-done : (b : Bus) (slave pb sb : ℕ) (bytes : List ℕ) → replies b slave pb sb bytes .verdict ≡ Done
     → Replied b slave (record { pb = pb; sb = sb; load = loadOf bytes }) (replies b slave pb sb bytes .bus)
-unfolding replies repliesFrom writes
+unfolding replies repliesFrom writes withTurn
 reply-done b slave pb sb bytes e = go (firstOf b (Slave slave)) refl e
   where
     given : Reply
@@ -185,6 +195,7 @@ reply-done b slave pb sb bytes e = go (firstOf b (Slave slave)) refl e
           attached = found-attached (Slave slave) b i found;
           station = turn-found (SlaveAt slave) (Slave slave) (slave-reflects slave) b i found;
           accepts = t .0;
-          changed = one-turn b _ i _ (p .1 ∙ q .1 ∙ t .1);
+          changed = one-turn b _ i _ _ (p .1 ∙ q .1 ∙ t .1);
+          waits = ap (λ (x : Bus). x .waiting) (p .1 ∙ q .1 ∙ t .1);
         }
     go Missing found e = not-done b _ e

@@ -6,6 +6,7 @@ pub mod ExamplesHold
 pub mod Generator
 pub mod Loops
 pub mod PassedBy
+pub mod PutBack
 pub mod Reflects
 pub mod RefusedAttach
 pub mod RefusedChangesNothing

@@ -12,6 +12,7 @@ use Rattle.laws.specs.First.{firstFrom, isFound}
 use Rattle.laws.specs.declared.Found.{Found}
 use Rattle.laws.specs.declared.Found.the-variants.{At, Missing}
 use Rattle.laws.proofs.AtMost.{at-most-room}
+use Rattle.station.specs.Admission.{bids}
 use Rattle.station.specs.declared.phase.Sound.{Sound}
 use Rattle.station.specs.declared.phase.Sound.the-variants.{Quiet, Symbol}
 use Rattle.station.specs.declared.station.Turn.{Turn}
@@ -20,6 +21,7 @@ use Rattle.bus.specs.declared.find.Query.{Query}
 use Rattle.bus.specs.Bus.{seats, attachedTo}
 use Rattle.bus.specs.Find.{meets, firstOf, thereIs}
 use Rattle.bus.specs.Slot.{wired, generatorSays, saidBy, spokenWith, spoken, mapFirst}
+use Rattle.bus.specs.Waiting.{withBid, withBids, bidsAmong}
 
 pub attached-fit : (b : Bus) → attachedTo b ≤ seats
 unfolding attachedTo
@@ -109,6 +111,29 @@ pub found-set : {A : Type 0} (test : A → Bool) (n : ℕ) (l : List A) (a : A) 
 found-set test n l a {v} {r} h e g =
     found-turn test n (set l n a) a {v = v} {r = r} (lt-length-set l n a h) (rw (take-set-le n l n a (omega arith)) e)
     (rw (getD-set-same l n a a h) g)
+
+-- ---- the bits of those who are admitted and have a telegram waiting
+
+bids-more : (n bits : ℕ) (l : List Turn) (d : Turn) → n < length l
+    → withBids bits (take (suc n) l) ≡ withBid (withBids bits (take n l)) (getD l n d)
+bids-more n bits [] d h = absurd (omega arith)
+bids-more zero bits (t ∷ l) d h = refl
+bids-more (suc n) bits (t ∷ l) d h = bids-more n (withBid bits t) l d (omega arith)
+
+-- one is replaced as it is looked at
+pub bids-set : (n : ℕ) (l : List Turn) (t : Turn) {v r : ℕ} → n < length l
+    → v ≡ bidsAmong n l → r ≡ withBid v t → r ≡ bidsAmong (n + 1) (set l n t)
+bids-set n l t {v} {r} h e g =
+    rw (add-one, bids-more n 0 (set l n t) t (lt-length-set l n t h), getD-set-same l n t t h, take-set-le n l n t (omega arith), g, e)
+
+pub no-bid : (bits : ℕ) (t : Turn) → bids (t .station) ≡ false → withBid bits t ≡ bits
+unfolding withBid
+no-bid bits t e = rw e
+
+-- who does not bid is passed by
+pub bids-passed : (n : ℕ) (l : List Turn) (d : Turn) {v : ℕ} → n < length l
+    → v ≡ bidsAmong n l → bids (getD l n d .station) ≡ false → v ≡ bidsAmong (n + 1) l
+bids-passed n l d {v} h e f = rw (add-one, bids-more n 0 l d h, no-bid (bidsAmong n l) (getD l n d) f) e
 
 -- ---- what the loops over the stations come to
 

@@ -151,6 +151,12 @@ still-untold heard t e = not-first (isTold (t .told)) _ e .0
 pub still-unowned : (heard : Sound) (t : Turn) → still heard t ≡ true → isOwns (t .told) ≡ false
 still-unowned heard t e = untold-owns t (still-untold heard t e)
 
+pub still-unbid : (heard : Sound) (t : Turn) → still heard t ≡ true → bids (t .station) ≡ false
+unfolding still bids
+still-unbid heard t e =
+    let w = not-first (isTold (t .told)) _ e in
+    rw (not-first (t .station .admitted) _ (w .1) .0)
+
 pub still-turned : (heard : Sound) (t : Turn) → still heard t ≡ true → turned heard t ≡ t
 unfolding still
 still-turned heard t e =

@@ -13,7 +13,8 @@ use Rattle.bus.specs.declared.find.Query.the-variants.{WasTold, Restless
 use Rattle.bus.specs.Bus.{attachedTo}
 use Rattle.bus.specs.Find.{thereIs}
 use Rattle.bus.specs.Run.{runs}
-use Rattle.bus.specs.Slot.{generatorNext, spoken, turned, mapFirst, turnsAfter, ownsAmong, latest, beganAfter, slotHeard, slotRun}
+use Rattle.bus.specs.Slot.{generatorNext, spoken, turned, mapFirst, turnsAfter, ownsAmong, latest, beganAfter, waitingAfter, slotHeard, slotRun}
+use Rattle.bus.specs.Waiting.{bidsAmong}
 use Rattle.bus.specs.Strides.{restsWith, atRest, byTens}
 use Rattle.bus.proofs.Tens.{and-second, slotsLater, tens}
 
@@ -41,14 +42,19 @@ tens-less b restless left e h = omega (arith, tens-mean b restless left e h .0)
 -- the bus after a slot, field by field
 pub heard-is : (b next : Bus) (word : Sound) → next .turns ≡ mapFirst (turned word) (attachedTo b) (b .turns) → next .count ≡ b .count
     → next .slot ≡ (b .slot + 1) % 2 ^ 32 → next .ran ≡ true → next .quiet ≡ generatorNext (b .quiet) word → next .began ≡ beganAfter b word
-    → next ≡ slotHeard b word
+    → next .waiting ≡ waitingAfter b word → next ≡ slotHeard b word
 unfolding slotHeard
-heard-is b next word t c s r q o = λ i. record { turns = t i; count = c i; slot = s i; ran = r i; quiet = q i; began = o i }
+heard-is b next word t c s r q o w = λ i. record { turns = t i; count = c i; slot = s i; ran = r i; quiet = q i; began = o i; waiting = w i }
 
 -- the slot of the latest owns line, as the loop over the stations finds it
 pub began-is : (b : Bus) (word : Sound) (turns : List Turn) (j : ℕ) {owns : Bool} {slot began r : ℕ} → j ≡ attachedTo b → turns ≡ turnsAfter b word
     → owns ≡ ownsAmong j turns → slot ≡ (b .slot + 1) % 2 ^ 32 → began ≡ b .began → r ≡ latest owns slot began → r ≡ beganAfter b word
 began-is b word turns j e t o s p q = rw (q, o, s, p, t, e)
+
+-- who waits, as the loop over the stations finds it
+pub waiting-is : (b : Bus) (word : Sound) (turns : List Turn) (j : ℕ) {bits : ℕ} → j ≡ attachedTo b → turns ≡ turnsAfter b word
+    → bits ≡ bidsAmong j turns → bits ≡ waitingAfter b word
+waiting-is b word turns j e t o = rw (o, t, e)
 
 slot-spoken : (b : Bus) {word : Sound} → word ≡ spoken b → slotHeard b word ≡ slotRun b
 unfolding slotRun
@@ -58,8 +64,8 @@ slot-spoken b w = ap (slotHeard b) w
 pub slot-is : (b next : Bus) (word : Sound) → word ≡ spoken b
     → next .turns ≡ mapFirst (turned word) (attachedTo b) (b .turns) → next .count ≡ b .count
     → next .slot ≡ (b .slot + 1) % 2 ^ 32 → next .ran ≡ true → next .quiet ≡ generatorNext (b .quiet) word → next .began ≡ beganAfter b word
-    → next ≡ slotRun b
-slot-is b next word w t c s r q o = heard-is b next word t c s r q o ∙ slot-spoken b w
+    → next .waiting ≡ waitingAfter b word → next ≡ slotRun b
+slot-is b next word w t c s r q o v = heard-is b next word t c s r q o v ∙ slot-spoken b w
 
 -- ---- one slot of the run
 

@@ -45,6 +45,7 @@ use Rattle.bus.specs.Run.{runs}
 use Rattle.bus.specs.Slot.{wired, patience, generatorSays, saidBy, spokenWith, spoken, turned, mapFirst, ownsAmong, slotHeard, slotRun}
 use Rattle.bus.specs.Strides.{atRest}
 use Rattle.bus.specs.Told.{isTold, isOwns}
+use Rattle.bus.specs.Waiting.{withBid, withBids, bidsAmong}
 use Rattle.laws.proofs.FirstIs.{Every, none, next, every-map, missing-each, each-missing}
 
 -- ---- a station at rest
@@ -210,6 +211,19 @@ rest-untold t r = ap (meets WasTold) (r .same)
 woken-untold : (t : Turn) → Resting t → meets WasTold (turned (Symbol syn) t) ≡ false
 woken-untold t r = ap (meets WasTold) (rest-woken t r)
 
+-- with nothing held it does not bid, admitted or not
+holds-no-bid : (s : Station) (a : Bool) → heldIn (s .outbox) ≡ 0 → bids (afterSyn s a .station) ≡ false
+unfolding bids
+holds-no-bid s true h = rw h
+holds-no-bid s false h = refl
+
+rest-unbid : (t : Turn) → Resting t → bids (t .station) ≡ false
+rest-unbid t r = ap (λ (u : Turn). bids (u .station)) (r .same) ∙ holds-no-bid (t .station) false (r .holds)
+
+woken-unbid : (t : Turn) → Resting t → bids (turned (Symbol syn) t .station) ≡ false
+woken-unbid t r =
+    ap (λ (u : Turn). bids (u .station)) (rest-woken t r) ∙ holds-no-bid (t .station) (cond (t .station .master) true false) (r .holds)
+
 -- who is told nothing is not told owns
 pub untold-owns : (t : Turn) → meets WasTold t ≡ false → meets ToldOwns t ≡ false
 untold-owns t e = ap isOwns (silence (t .told) e)
@@ -228,6 +242,12 @@ wake n l = mapFirst (turned (Symbol syn)) n l
 nobody-says : (w : Sound) {l : List Turn} → Every (λ t. saidBy t ≡ Quiet) l → spokenWith w l ≡ w
 nobody-says w none = refl
 nobody-says w (next {l = l} q qs) = rw (q, wired-quiet w) (nobody-says w qs)
+
+-- nobody bids
+nobody-bids : (bits : ℕ) {l : List Turn} → Every (λ t. bids (t .station) ≡ false) l → withBids bits l ≡ bits
+unfolding withBid
+nobody-bids bits none = refl
+nobody-bids bits (next {l = l} q qs) = rw q (nobody-bids bits qs)
 
 -- what holds of each after a step holds of the first n after it
 every-stepped : (P Q : Turn → Type 0) (f : Turn → Turn) → ((t : Turn) → P t → Q (f t)) → (n : ℕ) (l : List Turn)
@@ -260,6 +280,11 @@ abbrev ranAfter : ℕ → Bool → Bool
 ranAfter zero r = r
 ranAfter (suc k) r = ranAfter k true
 
+-- no bit is left once a slot has run
+abbrev bitsLeft : ℕ → ℕ → ℕ
+bitsLeft zero w = w
+bitsLeft (suc k) w = bitsLeft k 0
+
 -- one more slot that tells nobody anything
 run-on : (n : ℕ) (b c : Bus) → slotRun b ≡ c → thereIs c WasTold ≡ false → runs (suc n) b ≡ runs n c
 unfolding runs
@@ -267,83 +292,92 @@ run-on n b c e h = rw (e, h)
 
 module _ (l : List Turn) (count began : ℕ) where
   -- the bus with these stations
-  abbrev with : ℕ → Bool → ℕ → List Turn → Bus
-  with s r q k = record { turns = k; count = count; slot = s; ran = r; quiet = q; began = began }
+  abbrev with : ℕ → Bool → ℕ → ℕ → List Turn → Bus
+  with s r q w k = record { turns = k; count = count; slot = s; ran = r; quiet = q; began = began; waiting = w }
 
   abbrev seated : ℕ
-  seated = attachedTo (with 0 false 0 l)
+  seated = attachedTo (with 0 false 0 0 l)
 
-  untold : (s : ℕ) (r : Bool) (q : ℕ) (k : List Turn) → Every (λ t. meets WasTold t ≡ false) (take seated k)
-      → thereIs (with s r q k) WasTold ≡ false
+  untold : (s : ℕ) (r : Bool) (q w : ℕ) (k : List Turn) → Every (λ t. meets WasTold t ≡ false) (take seated k)
+      → thereIs (with s r q w k) WasTold ≡ false
   unfolding thereIs firstOf attachedTo
-  untold s r q k u = ap isFound (each-missing (meets WasTold) 0 u)
+  untold s r q w k u = ap isFound (each-missing (meets WasTold) 0 u)
 
   -- and so nobody owns
   unowned : (k : List Turn) → Every (λ t. meets WasTold t ≡ false) (take seated k) → ownsAmong seated k ≡ false
   unowned k u = ap isFound (each-missing (meets ToldOwns) 0 (every-map untold-owns u))
 
-  hushed : (s : ℕ) (r : Bool) (q : ℕ) (k : List Turn) → Every (λ t. saidBy t ≡ Quiet) (take seated k)
-      → spoken (with s r q k) ≡ generatorSays q
+  hushed : (s : ℕ) (r : Bool) (q w : ℕ) (k : List Turn) → Every (λ t. saidBy t ≡ Quiet) (take seated k)
+      → spoken (with s r q w k) ≡ generatorSays q
   unfolding spoken attachedTo
-  hushed s r q k u = nobody-says (generatorSays q) u
+  hushed s r q w k u = nobody-says (generatorSays q) u
 
-  hears-as : (s : ℕ) (r : Bool) (q : ℕ) (k : List Turn) (w : Sound) → spoken (with s r q k) ≡ w
-      → slotRun (with s r q k) ≡ slotHeard (with s r q k) w
+  hears-as : (s : ℕ) (r : Bool) (q w : ℕ) (k : List Turn) (h : Sound) → spoken (with s r q w k) ≡ h
+      → slotRun (with s r q w k) ≡ slotHeard (with s r q w k) h
   unfolding slotRun
-  hears-as s r q k w e = ap (slotHeard (with s r q k)) e
+  hears-as s r q w k h e = ap (slotHeard (with s r q w k)) e
 
   module _ (rest : Every Resting (take seated l)) where
     -- a quiet slot
-    quiet-slot : (s : ℕ) (r : Bool) (q : ℕ) → q < patience → slotRun (with s r q l) ≡ with ((s + 1) % 2 ^ 32) true (q + 1) l
+    quiet-slot : (s : ℕ) (r : Bool) (q w : ℕ) → q < patience → slotRun (with s r q w l) ≡ with ((s + 1) % 2 ^ 32) true (q + 1) 0 l
     unfolding slotHeard generatorSays attachedTo
-    quiet-slot s r q h =
-        let says : spoken (with s r q l) ≡ Quiet = hushed s r q l (every-map rest-says rest) ∙ rw (lt-ltb q patience h) in
-        hears-as s r q l Quiet says
-        ∙ rw (stays Resting (turned Quiet) rest-quiet seated l rest, unowned l (every-map rest-untold rest), lt-ltb q patience h)
+    quiet-slot s r q w h =
+        let says : spoken (with s r q w l) ≡ Quiet = hushed s r q w l (every-map rest-says rest) ∙ rw (lt-ltb q patience h) in
+        hears-as s r q w l Quiet says
+        ∙ rw (
+          stays Resting (turned Quiet) rest-quiet seated l rest,
+          unowned l (every-map rest-untold rest),
+          nobody-bids 0 (every-map rest-unbid rest),
+          lt-ltb q patience h,
+        )
 
     -- the generator's AA after nine of them
-    syn-slot : (s : ℕ) (r : Bool) → slotRun (with s r patience l) ≡ with ((s + 1) % 2 ^ 32) true 0 (wake seated l)
+    syn-slot : (s : ℕ) (r : Bool) (w : ℕ) → slotRun (with s r patience w l) ≡ with ((s + 1) % 2 ^ 32) true 0 0 (wake seated l)
     unfolding slotHeard generatorSays attachedTo
-    syn-slot s r =
-        hears-as s r patience l (Symbol syn) (hushed s r patience l (every-map rest-says rest))
-        ∙ rw (unowned (wake seated l) (every-stepped Resting (λ t. meets WasTold t ≡ false) (turned (Symbol syn)) woken-untold seated l rest))
+    syn-slot s r w =
+        hears-as s r patience w l (Symbol syn) (hushed s r patience w l (every-map rest-says rest))
+        ∙ rw (
+          unowned (wake seated l) (every-stepped Resting (λ t. meets WasTold t ≡ false) (turned (Symbol syn)) woken-untold seated l rest),
+          nobody-bids 0 (every-stepped Resting (λ t. bids (t .station) ≡ false) (turned (Symbol syn)) woken-unbid seated l rest),
+        )
 
     -- the quiet slot after that
-    woken-slot : (s : ℕ) (r : Bool) → slotRun (with s r 0 (wake seated l)) ≡ with ((s + 1) % 2 ^ 32) true 1 l
+    woken-slot : (s : ℕ) (r : Bool) → slotRun (with s r 0 0 (wake seated l)) ≡ with ((s + 1) % 2 ^ 32) true 1 0 l
     unfolding slotHeard generatorSays attachedTo
     woken-slot s r =
-        hears-as s r 0 (wake seated l) Quiet
-        (hushed s r 0 (wake seated l) (every-stepped Resting (λ t. saidBy t ≡ Quiet) (turned (Symbol syn)) woken-says seated l rest))
+        hears-as s r 0 0 (wake seated l) Quiet
+        (hushed s r 0 0 (wake seated l) (every-stepped Resting (λ t. saidBy t ≡ Quiet) (turned (Symbol syn)) woken-says seated l rest))
         ∙ rw (
           twice (turned (Symbol syn)) (turned Quiet) seated l,
           stays Resting (λ t. turned Quiet (turned (Symbol syn) t)) woken-quiet seated l rest,
           unowned l (every-map rest-untold rest),
+          nobody-bids 0 (every-map rest-unbid rest),
         )
 
-    rest-tells : (s : ℕ) (r : Bool) (q : ℕ) → thereIs (with s r q l) WasTold ≡ false
-    rest-tells s r q = untold s r q l (every-map rest-untold rest)
+    rest-tells : (s : ℕ) (r : Bool) (q w : ℕ) → thereIs (with s r q w l) WasTold ≡ false
+    rest-tells s r q w = untold s r q w l (every-map rest-untold rest)
 
-    woken-tells : (s : ℕ) (r : Bool) (q : ℕ) → thereIs (with s r q (wake seated l)) WasTold ≡ false
-    woken-tells s r q =
-        untold s r q (wake seated l)
+    woken-tells : (s : ℕ) (r : Bool) (q w : ℕ) → thereIs (with s r q w (wake seated l)) WasTold ≡ false
+    woken-tells s r q w =
+        untold s r q w (wake seated l)
         (every-stepped Resting (λ t. meets WasTold t ≡ false) (turned (Symbol syn)) woken-untold seated l rest)
 
     -- k quiet slots
-    quiet-run : (k n s : ℕ) (r : Bool) (q : ℕ) → q + k ≤ patience
-        → runs (k + n) (with s r q l) ≡ runs n (with (number k s) (ranAfter k r) (q + k) l)
-    quiet-run zero n s r q h = rw (zero-add n, add-zero q)
-    quiet-run (suc k) n s r q h =
+    quiet-run : (k n s : ℕ) (r : Bool) (q w : ℕ) → q + k ≤ patience
+        → runs (k + n) (with s r q w l) ≡ runs n (with (number k s) (ranAfter k r) (q + k) (bitsLeft k w) l)
+    quiet-run zero n s r q w h = rw (zero-add n, add-zero q)
+    quiet-run (suc k) n s r q w h =
         let e : q + 1 + k ≡ q + suc k = omega arith in
         rw (suc-add k n)
-        (run-on (k + n) (with s r q l) (with ((s + 1) % 2 ^ 32) true (q + 1) l) (quiet-slot s r q (omega arith)) (rest-tells _ _ _)
-        ∙ quiet-run k n ((s + 1) % 2 ^ 32) true (q + 1) (omega arith)
-        ∙ ap (λ (p : ℕ). runs n (with (number k ((s + 1) % 2 ^ 32)) (ranAfter k true) p l)) e)
+        (run-on (k + n) (with s r q w l) (with ((s + 1) % 2 ^ 32) true (q + 1) 0 l) (quiet-slot s r q w (omega arith)) (rest-tells _ _ _ _)
+        ∙ quiet-run k n ((s + 1) % 2 ^ 32) true (q + 1) 0 (omega arith)
+        ∙ ap (λ (p : ℕ). runs n (with (number k ((s + 1) % 2 ^ 32)) (ranAfter k true) p (bitsLeft k 0) l)) e)
 
     -- the AA and the quiet slot after it
-    syn-run : (n s : ℕ) (r : Bool) → runs (suc (suc n)) (with s r patience l) ≡ runs n (with (number 2 s) true 1 l)
-    syn-run n s r =
-        run-on (suc n) (with s r patience l) (with ((s + 1) % 2 ^ 32) true 0 (wake seated l)) (syn-slot s r) (woken-tells _ _ _)
-        ∙ run-on n (with ((s + 1) % 2 ^ 32) true 0 (wake seated l)) (with (number 2 s) true 1 l) (woken-slot _ true) (rest-tells _ _ _)
+    syn-run : (n s : ℕ) (r : Bool) (w : ℕ) → runs (suc (suc n)) (with s r patience w l) ≡ runs n (with (number 2 s) true 1 0 l)
+    syn-run n s r w =
+        run-on (suc n) (with s r patience w l) (with ((s + 1) % 2 ^ 32) true 0 0 (wake seated l)) (syn-slot s r w) (woken-tells _ _ _ _)
+        ∙ run-on n (with ((s + 1) % 2 ^ 32) true 0 0 (wake seated l)) (with (number 2 s) true 1 0 l) (woken-slot _ true) (rest-tells _ _ _ _)
 
 -- ---- ten slots
 
@@ -361,9 +395,13 @@ ran-stays : (k : ℕ) → ranAfter k true ≡ true
 ran-stays zero = refl
 ran-stays (suc k) = ran-stays k
 
--- the same bus, so many slots later; it has run
+none-left : (k : ℕ) → bitsLeft k 0 ≡ 0
+none-left zero = refl
+none-left (suc k) = none-left k
+
+-- the same bus, so many slots later; it has run, and nobody waits
 abbrev pub slotsLater : Bus → ℕ → Bus
-slotsLater b m = record { turns = b .turns; count = b .count; slot = (b .slot + m) % 2 ^ 32; ran = true; quiet = b .quiet; began = b .began }
+slotsLater b m = record { turns = b .turns; count = b .count; slot = (b .slot + m) % 2 ^ 32; ran = true; quiet = b .quiet; began = b .began; waiting = 0 }
 
 -- every attached station at rest, at least one quiet slot heard, and nine at most
 record AtRest (b : Bus) : Type 0 where
@@ -391,13 +429,14 @@ ten-slots n b a =
         ∙ ap (λ (k : ℕ). number k s) ten
         ∙ number-is 9 s in
         ap (λ (k : ℕ). runs k b) all
-        ∙ quiet-run l (b .count) (b .began) (a .stations) first (suc (suc (last + n))) s (b .ran) (b .quiet) (omega (arith, nine))
-        ∙ ap (λ (q : ℕ). runs (suc (suc (last + n))) (with l (b .count) (b .began) (number first s) (ranAfter first (b .ran)) q l)) nine
-        ∙ syn-run l (b .count) (b .began) (a .stations) (last + n) (number first s) (ranAfter first (b .ran))
-        ∙ quiet-run l (b .count) (b .began) (a .stations) last n (number 2 (number first s)) true 1 (omega (arith, back, a .few))
-        ∙ ap (λ (k : ℕ). runs n (with l (b .count) (b .began) k (ranAfter last true) (1 + last) l)) slots
-        ∙ ap (λ (r : Bool). runs n (with l (b .count) (b .began) ((s + 10) % 2 ^ 32) r (1 + last) l)) (ran-stays last)
-        ∙ ap (λ (q : ℕ). runs n (with l (b .count) (b .began) ((s + 10) % 2 ^ 32) true q l)) back
+        ∙ quiet-run l (b .count) (b .began) (a .stations) first (suc (suc (last + n))) s (b .ran) (b .quiet) (b .waiting) (omega (arith, nine))
+        ∙ ap (λ (q : ℕ). runs (suc (suc (last + n))) (with l (b .count) (b .began) (number first s) (ranAfter first (b .ran)) q (bitsLeft first (b .waiting)) l)) nine
+        ∙ syn-run l (b .count) (b .began) (a .stations) (last + n) (number first s) (ranAfter first (b .ran)) (bitsLeft first (b .waiting))
+        ∙ quiet-run l (b .count) (b .began) (a .stations) last n (number 2 (number first s)) true 1 0 (omega (arith, back, a .few))
+        ∙ ap (λ (k : ℕ). runs n (with l (b .count) (b .began) k (ranAfter last true) (1 + last) (bitsLeft last 0) l)) slots
+        ∙ ap (λ (r : Bool). runs n (with l (b .count) (b .began) ((s + 10) % 2 ^ 32) r (1 + last) (bitsLeft last 0) l)) (ran-stays last)
+        ∙ ap (λ (w : ℕ). runs n (with l (b .count) (b .began) ((s + 10) % 2 ^ 32) true (1 + last) w l)) (none-left last)
+        ∙ ap (λ (q : ℕ). runs n (with l (b .count) (b .began) ((s + 10) % 2 ^ 32) true q 0 l)) back
 
 -- it is at rest ten slots later too
 rests-on : (b : Bus) (m : ℕ) → AtRest b → AtRest (slotsLater b m)
@@ -413,7 +452,7 @@ ten-by-ten (suc k) n b a =
     ap (λ (m : ℕ). runs m b) e
     ∙ ten-slots (10 * suc k + n) b a
     ∙ ten-by-ten k n (slotsLater b 10) (rests-on b 10 a)
-    ∙ ap (λ (s : ℕ). runs n (record { turns = b .turns; count = b .count; slot = s; ran = true; quiet = b .quiet; began = b .began }))
+    ∙ ap (λ (s : ℕ). runs n (record { turns = b .turns; count = b .count; slot = s; ran = true; quiet = b .quiet; began = b .began; waiting = 0 }))
     (mod-add-mod (b .slot + 10) (2 ^ 32) (10 * suc k) ∙ ap (λ (m : ℕ). m % 2 ^ 32) f)
 
 -- what the test says
@@ -456,4 +495,4 @@ tens left b e h = go (left / 10) (div-add-mod left 10)
 -- nobody is told anything by a bus at rest
 pub rest-tells-nobody : (b : Bus) (m : ℕ) → atRest b ≡ true → thereIs (slotsLater b m) WasTold ≡ false
 unfolding attachedTo
-rest-tells-nobody b m e = rest-tells (b .turns) (b .count) (b .began) (at-rest-means b e .stations) _ _ _
+rest-tells-nobody b m e = rest-tells (b .turns) (b .count) (b .began) (at-rest-means b e .stations) _ _ _ _

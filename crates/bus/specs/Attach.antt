@@ -39,7 +39,7 @@ newcomer a master = record { station = fresh a master; told = Silence }
 unfoldable pub takesSeat : Bus → ℕ → Bool → Answer
 takesSeat b a master =
     cond (ltb (b .count) seats)
-    (done (record { turns = set (b .turns) (b .count) (newcomer a master); count = b .count + 1; slot = b .slot; ran = b .ran; quiet = b .quiet; began = b .began }))
+    (done (record { turns = set (b .turns) (b .count) (newcomer a master); count = b .count + 1; slot = b .slot; ran = b .ran; quiet = b .quiet; began = b .began; waiting = b .waiting }))
     (refusedBy b NoRoom)
 
 -- 7: the bus has run a slot

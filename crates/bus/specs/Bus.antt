@@ -22,7 +22,7 @@ unseated = record { station = fresh 0 false; told = Silence }
 
 -- nobody attached, no slot run
 unfoldable pub poweredOn : Bus
-poweredOn = record { turns = replicate seats unseated; count = 0; slot = 0; ran = false; quiet = 0; began = 0 }
+poweredOn = record { turns = replicate seats unseated; count = 0; slot = 0; ran = false; quiet = 0; began = 0; waiting = 0 }
 
 -- how many stations are attached
 unfoldable pub attachedTo : Bus → ℕ
@@ -37,7 +37,7 @@ turnAt b i = getD (b .turns) i unseated
 
 unfoldable pub withTurn : Bus → ℕ → Turn → Bus
 withTurn b i t =
-    record { turns = set (b .turns) i t; count = b .count; slot = b .slot; ran = b .ran; quiet = b .quiet; began = b .began }
+    record { turns = set (b .turns) i t; count = b .count; slot = b .slot; ran = b .ran; quiet = b .quiet; began = b .began; waiting = b .waiting }
 
 -- a refused call changes nothing
 unfoldable pub refusedBy : Bus → Refusal → Answer

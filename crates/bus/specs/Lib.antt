@@ -14,3 +14,4 @@ pub mod Still
 pub mod Strides
 pub mod Time
 pub mod Told
+pub mod Waiting

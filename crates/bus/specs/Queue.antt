@@ -3,7 +3,7 @@ use mathlib.Core.Bool.{Bool, true, false, cond}
 use mathlib.Core.List.{List}
 use Prim.Native.Nat.{ℕ}
 use lib.Dec.{ltb}
-use lib.ListN.{length}
+use lib.ListN.{length, set}
 use Rattle.laws.specs.declared.Found.{Found}
 use Rattle.laws.specs.declared.Found.the-variants.{At, Missing}
 use Rattle.address.specs.Role.{roleOf}
@@ -20,10 +20,14 @@ use Rattle.station.specs.declared.station.Station.{Station}
 use Rattle.station.specs.declared.station.Turn.{Turn}
 use Rattle.bus.specs.declared.bus.Bus.{Bus}
 use Rattle.bus.specs.declared.bus.Answer.{Answer}
+use Rattle.bus.specs.declared.bus.Held.{Held}
 use Rattle.bus.specs.declared.find.Query.the-variants.{Master}
+use Rattle.bus.specs.declared.refusal.Verdict.{Verdict}
+use Rattle.bus.specs.declared.refusal.Verdict.the-variants.{Done, Refused}
 use Rattle.bus.specs.declared.refusal.Refusal.the-variants.{NoMaster, NoTarget, NoCommand, TooMuchData, TooManySymbols, OutboxFull}
-use Rattle.bus.specs.Bus.{turnAt, withTurn, refusedBy, done}
+use Rattle.bus.specs.Bus.{turnAt, refusedBy, done}
 use Rattle.bus.specs.Find.{firstOf}
+use Rattle.bus.specs.Waiting.{withBid}
 
 abbrev pub isNever : R.Role → Bool
 isNever role.Master = false
@@ -43,11 +47,24 @@ noTarget s zz = cond (unusable zz) true (isOwn s zz)
 unfoldable pub noCommand : ℕ → ℕ → Bool
 noCommand pb sb = cond (unusable pb) true (unusable sb)
 
+-- the bus with that turn in the source's seat, and with the bit of its rank while it is admitted
+unfoldable pub withSource : Bus → ℕ → Turn → Bus
+withSource b i t =
+    record {
+      turns = set (b .turns) i t;
+      count = b .count;
+      slot = b .slot;
+      ran = b .ran;
+      quiet = b .quiet;
+      began = b .began;
+      waiting = withBid (b .waiting) t;
+    }
+
 -- 5: 4 telegrams held, one in transfer included; else it is held behind them
 abbrev pub holdsAs : Accepted → Bus → ℕ → Turn → Answer
 holdsAs a b i t =
     cond (a .taken)
-    (done (withTurn b i (record { station = withOutbox (t .station) (t .station .phase) (a .outbox); told = t .told })))
+    (done (withSource b i (record { station = withOutbox (t .station) (t .station .phase) (a .outbox); told = t .told })))
     (refusedBy b OutboxFull)
 
 unfoldable pub holds : Bus → ℕ → Telegram → Answer
@@ -72,3 +89,27 @@ queuesAt Missing b zz pb sb bytes = refusedBy b NoMaster
 
 unfoldable pub queues : Bus → ℕ → ℕ → ℕ → ℕ → List ℕ → Answer
 queues b qq zz pb sb bytes = queuesAt (firstOf b (Master qq)) b zz pb sb bytes
+
+-- ---- no rule: the same as the code does it, with the source's seat worked on by itself (proofs/PutBack.antt)
+
+-- a refused call leaves the bits as they were
+abbrev pub bitsAfter : Verdict → ℕ → Turn → ℕ
+bitsAfter Done bits t = withBid bits t
+bitsAfter (Refused r) bits t = bits
+
+-- the seat as the call left it, put back
+abbrev pub putBack : Bus → ℕ → Held → Answer
+putBack b i h =
+    record {
+      bus =
+          record {
+            turns = set (b .turns) i (h .turn);
+            count = b .count;
+            slot = b .slot;
+            ran = b .ran;
+            quiet = b .quiet;
+            began = b .began;
+            waiting = bitsAfter (h .verdict) (b .waiting) (h .turn);
+          };
+      verdict = h .verdict;
+    }

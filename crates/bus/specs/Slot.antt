@@ -15,6 +15,7 @@ use Rattle.bus.specs.declared.bus.Bus.{Bus}
 use Rattle.bus.specs.declared.find.Query.the-variants.{ToldOwns}
 use Rattle.bus.specs.Bus.{attachedTo, attachedTurns}
 use Rattle.bus.specs.Find.{meets}
+use Rattle.bus.specs.Waiting.{bidsAmong}
 
 -- the bus is LOW-active: two that are sent at once are heard as their bitwise AND
 abbrev pub wired : Sound → Sound → Sound
@@ -72,6 +73,10 @@ latest owns slot began = cond owns slot began
 abbrev pub beganAfter : Bus → Sound → ℕ
 beganAfter b heard = latest (ownsAmong (attachedTo b) (turnsAfter b heard)) ((b .slot + 1) % 2 ^ 32) (b .began)
 
+-- who is admitted and has a telegram waiting after it
+abbrev pub waitingAfter : Bus → Sound → ℕ
+waitingAfter b heard = bidsAmong (attachedTo b) (turnsAfter b heard)
+
 -- a slot that all hear as given; slots are numbered in 32 bits
 unfoldable pub slotHeard : Bus → Sound → Bus
 slotHeard b heard =
@@ -82,6 +87,7 @@ slotHeard b heard =
       ran = true;
       quiet = generatorNext (b .quiet) heard;
       began = beganAfter b heard;
+      waiting = waitingAfter b heard;
     }
 
 -- an undisturbed slot

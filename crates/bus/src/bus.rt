@@ -20,6 +20,8 @@ pub struct Bus {
     pub quiet: u8,
     // The slot of the latest owns line.
     pub began: u32,
+    // One bit for each of the 25 ranks: that master is admitted and has a telegram waiting.
+    pub waiting: u32,
 }
 
 // The bus after a call; a refused call leaves it as it was.
@@ -57,6 +59,7 @@ impl Bus {
             ran: false,
             quiet: 0,
             began: 0,
+            waiting: 0,
         }
     }
 

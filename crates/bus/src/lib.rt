@@ -2,6 +2,7 @@
 mod attach;
 pub mod bus;
 pub mod find;
+pub mod next;
 mod queue;
 pub mod refusal;
 mod reply;

@@ -2,12 +2,13 @@
 ghost use mathlib.Core.Path.{_≡_};
 ghost use Prim.Native.Nat.{ℕ};
 ghost use Rattle.bus.specs.declared.bus.Bus.{Bus};
-ghost use Rattle.bus.specs.Bus.{turnAt, withTurn};
-ghost use Rattle.bus.specs.Queue.{unusable, noTarget, noCommand, queuesTelegram, queuesFrom, queues};
+ghost use Rattle.bus.specs.Bus.{turnAt};
+ghost use Rattle.bus.specs.Queue.{unusable, noTarget, noCommand, queuesTelegram, queuesFrom, queues, bitsAfter, putBack};
 use crate::bus::Answer;
 use crate::bus::Bus;
 use crate::bus::Held;
 use crate::find::Query;
+use crate::next;
 use crate::refusal::Refusal;
 use crate::refusal::Verdict;
 use address::Role;
@@ -60,6 +61,7 @@ impl Bus {
                     let turn = h.turn;
                     self.turns[i] = turn;
                     verdict = h.verdict;
+                    self.waiting = bits_after(verdict, self.waiting, turn);
                 }
             }
             Found::Missing => {}
@@ -71,11 +73,21 @@ impl Bus {
     }
 }
 
+// A refused call leaves the bits as they were.
+fn bits_after(verdict: Verdict, bits: u32, t: Turn) -> u32
+    ensures { λ r. ⌜ r ≡ bitsAfter verdict bits t ⌝ }
+{
+    match verdict {
+        Verdict::Done => next::with_bid(bits, t),
+        Verdict::Refused(_) => bits,
+    }
+}
+
 // 2, 3, 4, then 6 and 5: the same in whichever seat of whichever bus the turn stands.
 fn held(t: Turn, zz: u8, pb: u8, sb: u8, bytes: &[u8]) -> Held
     ensures { λ r.
         ⌜ ((b : Bus) (i : ℕ) → turnAt b i ≡ t
-        → queuesFrom b i zz pb sb (now (bytes .entry)) ≡ record { bus = withTurn b i (r .turn); verdict = r .verdict }) ⌝ }
+        → queuesFrom b i zz pb sb (now (bytes .entry)) ≡ putBack b i r) ⌝ }
 {
     let source = t.station;
     if no_target(source, zz) {
@@ -101,7 +113,7 @@ fn held(t: Turn, zz: u8, pb: u8, sb: u8, bytes: &[u8]) -> Held
 fn accepts(t: Turn, telegram: Telegram) -> Held
     ensures { λ r.
         ⌜ ((b : Bus) (i : ℕ) → turnAt b i ≡ t
-        → queuesTelegram b i telegram ≡ record { bus = withTurn b i (r .turn); verdict = r .verdict }) ⌝ }
+        → queuesTelegram b i telegram ≡ putBack b i r) ⌝ }
 {
     let w = wire::form::telegram_form(telegram);
     if Wire::ROOM < w.len {

@@ -3,6 +3,7 @@
 ghost use mathlib.Core.Path.{_≡_};
 ghost use Rattle.bus.specs.Run.{runs};
 use crate::bus::Bus;
+use crate::next;
 use crate::rest;
 use crate::slot;
 use crate::still;
@@ -36,11 +37,13 @@ impl Bus {
             if rest::by_tens(self.quiet, restless, left) {
                 self.slot = std::num::wrapping_add_u32(self.slot, left - left % 10);
                 self.ran = true;
+                self.waiting = 0;
                 left = left % 10;
                 continue;
             }
             let mut told = false;
             let mut owns = false;
+            let mut waiting: u32 = 0;
             for j in 0..n {
                 let t = self.turns[j];
                 if still::still(t, word) {
@@ -50,12 +53,14 @@ impl Bus {
                 let v = still::turned(u, word);
                 told = rest::or_told(told, v);
                 owns = time::or_owns(owns, v);
+                waiting = next::with_bid(waiting, v);
                 self.turns[j] = v;
             }
             self.slot = std::num::wrapping_add_u32(self.slot, 1);
             self.ran = true;
             self.quiet = slot::generator_next(self.quiet, word);
             self.began = time::latest(owns, self.slot, self.began);
+            self.waiting = waiting;
             left -= 1;
             if told {
                 break;

@@ -2,6 +2,7 @@
 ghost use mathlib.Core.Path.{_≡_};
 ghost use Rattle.bus.specs.Slot.{wired, generatorSays, generatorNext, spoken, slotHeard, slotRun};
 use crate::bus::Bus;
+use crate::next;
 use crate::still;
 use crate::time;
 use station::phase::Sound;
@@ -76,6 +77,7 @@ impl Bus {
         let n = self.attached();
         let quiet = generator_next(self.quiet, heard);
         let mut owns = false;
+        let mut waiting: u32 = 0;
         for i in 0..n {
             let t = self.turns[i];
             if still::still(t, heard) {
@@ -84,12 +86,14 @@ impl Bus {
             let u = self.turns[i];
             let v = still::turned(u, heard);
             owns = time::or_owns(owns, v);
+            waiting = next::with_bid(waiting, v);
             self.turns[i] = v;
         }
         self.slot = std::num::wrapping_add_u32(self.slot, 1);
         self.ran = true;
         self.quiet = quiet;
         self.began = time::latest(owns, self.slot, self.began);
+        self.waiting = waiting;
         self
     }
 }

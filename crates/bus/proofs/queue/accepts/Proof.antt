@@ -2,7 +2,8 @@
 use Rattle.wire.proofs.Buffer.{held-len}
 use borrow.Author.Tests.{lt-ltb, le-ltb}
 use Rattle.bus.specs.Bus.{done}
-use Rattle.bus.specs.Queue.{holds, queuesTelegram}
+use Rattle.bus.specs.Queue.{holds, queuesTelegram, withSource}
+use Rattle.bus.proofs.PutBack.{refused-back}
 use borrow.Author.Needs.{needs}
 use Rattle.bus.proofs.queue.accepts.Statement.{statement}
 use Rattle.bus.proofs.queue.accepts.Tie as tie
@@ -17,7 +18,7 @@ returns : tie.Need-returns
 unfolding queuesTelegram
 returns c =
     λ b i e. simp (
-      c .refused .ensures b i e,
+      refused-back b i _ _ (c .refused .ensures b i e),
       ← held-len _ _ (c .before .before .before .telegram-form .ensures),
       lt-ltb _ _ (c .before .if1 .taken),
     )
@@ -26,7 +27,7 @@ accept-requires : tie.Need-accept-requires
 accept-requires c κs = search needs
 
 returns-2 : tie.Need-returns-2
-unfolding queuesTelegram holds done
+unfolding queuesTelegram holds withSource done
 returns-2 c =
     λ b i e. simp (
       e,
@@ -43,7 +44,7 @@ returns-3 : tie.Need-returns-3
 unfolding queuesTelegram holds
 returns-3 c =
     λ b i e. simp (
-      c .refused2 .ensures b i e,
+      refused-back b i _ _ (c .refused2 .ensures b i e),
       e,
       c .before .if2 .left,
       ← c .before .before .accept .ensures,

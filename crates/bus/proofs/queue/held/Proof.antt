@@ -1,6 +1,7 @@
 -- `bus::queue::held` meets its contract. Assumes nothing.
 use borrow.Author.Tests.{lt-ltb, le-ltb}
 use Rattle.bus.specs.Queue.{queuesFrom}
+use Rattle.bus.proofs.PutBack.{refused-back}
 use borrow.Author.Needs.{needs}
 use Rattle.bus.proofs.queue.held.Statement.{statement}
 use Rattle.bus.proofs.queue.held.Tie as tie
@@ -30,7 +31,7 @@ returns : tie.Need-returns
 unfolding queuesFrom
 returns c =
     λ b i e. simp (
-      c .refused .ensures b i e,
+      refused-back b i _ _ (c .refused .ensures b i e),
       e,
       c .before .if1 .taken,
       ← c .before .before .no-target .ensures,
@@ -40,7 +41,7 @@ returns-2 : tie.Need-returns-2
 unfolding queuesFrom
 returns-2 c =
     λ b i e. simp (
-      c .refused2 .ensures b i e,
+      refused-back b i _ _ (c .refused2 .ensures b i e),
       e,
       c .before .if2 .taken,
       ← c .before .before .no-command .ensures,
@@ -52,7 +53,7 @@ returns-3 : tie.Need-returns-3
 unfolding queuesFrom
 returns-3 c =
     λ b i e. simp (
-      c .refused3 .ensures b i e,
+      refused-back b i _ _ (c .refused3 .ensures b i e),
       e,
       lt-ltb _ _ (c .before .if3 .taken),
       c .before .before .if2 .left,

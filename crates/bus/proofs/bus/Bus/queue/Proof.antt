@@ -4,7 +4,7 @@ use native.Mathlib.Omega.{arith}
 use lib.ListN.{length}
 use Rattle.laws.proofs.Lists.{length-mapped, getD-within}
 use Rattle.laws.specs.declared.Found.{Found}
-use Rattle.bus.specs.Bus.{seats, turnAt, withTurn, refusedBy}
+use Rattle.bus.specs.Bus.{seats, turnAt, refusedBy}
 use Rattle.bus.specs.Queue.{queuesAt, queues}
 use Rattle.bus.proofs.Loops.{attached-fit}
 use Rattle.bus.proofs.RefusedQueue.{found-attached}
@@ -34,6 +34,9 @@ mul-turn c = search needs
 element-set-from-turn : tie.Need-element-set-from-turn
 element-set-from-turn c = search needs
 
+bits-after-requires : tie.Need-bits-after-requires
+bits-after-requires c κs = search needs
+
 enum-told : tie.Need-enum-told
 enum-told c = search needs
 
@@ -43,15 +46,16 @@ full c = search (needs, length-mapped)
 
 -- the turn goes back into the seat that it came from
 returns : tie.Need-returns
-unfolding queues turnAt withTurn
+unfolding queues turnAt
 returns c =
-    let h = c .before in
+    let h = c .before .before in
     let m = h .before .before .before .before in
     let f = m .before .before in
     let g = f .before .before .args in
-    sym
+    rw (c .bits-after .ensures)
+    (sym
     (ap (λ (x : Found). queuesAt x (g .t1) (g .zz) (g .pb) (g .sb) (now (g .bytes))) (sym (f .first .ensures) ∙ m .i .given .1)
-    ∙ h .held .ensures (g .t1) _ (sym (getD-within (g .t1 .turns) _ _ _ (omega (arith, full (f .before .before))))))
+    ∙ h .held .ensures (g .t1) _ (sym (getD-within (g .t1 .turns) _ _ _ (omega (arith, full (f .before .before)))))))
 
 -- what the search found is a seat
 returns-2 : tie.Need-returns-2
@@ -80,6 +84,7 @@ queue-spec =
     held-requires
     mul-turn
     element-set-from-turn
+    bits-after-requires
     enum-told
     returns
     returns-2

@@ -17,9 +17,10 @@ use Rattle.bus.specs.Bus.{seats, attachedTo}
 use Rattle.bus.specs.Find.{meets}
 use Rattle.bus.specs.Run.{runs}
 use Rattle.bus.specs.Slot.{generatorSays, generatorNext, spokenWith, turned, mapFirst, ownsAmong}
-use Rattle.bus.proofs.Loops.{attached-fit, spoken-turn, spoken-passed, length-mapFirst, mapFirst-turn, mapFirst-passed, found-turn, found-passed, found-set, all-spoken, all-asked, same-count}
-use Rattle.bus.proofs.PassedBy.{mute-says, still-untold, still-unowned, still-turned}
-use Rattle.bus.proofs.Strides.{tens-on, tens-less, began-is, slot-is, stops, continues, ends}
+use Rattle.bus.specs.Waiting.{bidsAmong}
+use Rattle.bus.proofs.Loops.{attached-fit, spoken-turn, spoken-passed, length-mapFirst, mapFirst-turn, mapFirst-passed, found-turn, found-passed, found-set, bids-passed, bids-set, all-spoken, all-asked, same-count}
+use Rattle.bus.proofs.PassedBy.{mute-says, still-untold, still-unowned, still-unbid, still-turned}
+use Rattle.bus.proofs.Strides.{tens-on, tens-less, began-is, waiting-is, slot-is, stops, continues, ends}
 use Rattle.bus.proofs.bus.Bus.run.Statement.{statement}
 use Rattle.bus.proofs.bus.Bus.run.Tie as tie
 
@@ -32,13 +33,13 @@ abbrev μ-loop2 : tie.MeasureT-loop2
 μ-loop2 slots self n left word₀ restless₀ i₀ word restless i = n - i
 
 abbrev Inv-loop3 : tie.InvT-loop3
-Inv-loop3 slots self₀ n left word restless told₀ owns₀ j₀ self told owns j =
+Inv-loop3 slots self₀ n left word restless told₀ owns₀ waiting₀ j₀ self told owns waiting j =
     (j ≤ n) × (self .turns ≡ mapFirst (turned word) j (self₀ .turns)) × (self .count ≡ self₀ .count) × (self .slot ≡ self₀ .slot)
     × (self .quiet ≡ self₀ .quiet) × (told ≡ isFound (firstFrom (meets WasTold) 0 (take j (self .turns))))
-    × (self .began ≡ self₀ .began) × (owns ≡ ownsAmong j (self .turns))
+    × (self .began ≡ self₀ .began) × (owns ≡ ownsAmong j (self .turns)) × (waiting ≡ bidsAmong j (self .turns))
 
 abbrev μ-loop3 : tie.MeasureT-loop3
-μ-loop3 slots self₀ n left word restless told₀ owns₀ j₀ self told owns j = n - j
+μ-loop3 slots self₀ n left word restless told₀ owns₀ waiting₀ j₀ self told owns waiting j = n - j
 
 abbrev Inv-loop : tie.InvT-loop
 Inv-loop slots self₀ n left₀ self left =
@@ -51,9 +52,9 @@ nobody : (test : Turn → Bool) → false ≡ isFound (firstFrom test 0 [])
 unfolding firstFrom
 nobody test = refl
 
--- the bus under another number, and it has run
+-- the bus under another number; it has run, and nobody waits
 abbrev numbered : Bus → ℕ → Bus
-numbered b s = record { turns = b .turns; count = b .count; slot = s; ran = true; quiet = b .quiet; began = b .began }
+numbered b s = record { turns = b .turns; count = b .count; slot = s; ran = true; quiet = b .quiet; began = b .began; waiting = 0 }
 
 attached-requires : tie.Need-attached-requires Inv-loop2 μ-loop2 Inv-loop3 μ-loop3 Inv-loop μ-loop
 attached-requires c κs = search needs
@@ -163,7 +164,7 @@ loop-again c =
     )
 
 loop3-holds : tie.Need-loop3-holds Inv-loop2 μ-loop2 Inv-loop3 μ-loop3 Inv-loop μ-loop
-loop3-holds c = (search needs, refl, refl, refl, refl, nobody (meets WasTold), refl, nobody (meets ToldOwns))
+loop3-holds c = (search needs, refl, refl, refl, refl, nobody (meets WasTold), refl, nobody (meets ToldOwns), refl)
 
 mul-t-2 : tie.Need-mul-t-2 Inv-loop2 μ-loop2 Inv-loop3 μ-loop3 Inv-loop μ-loop
 mul-t-2 c = search needs
@@ -198,6 +199,7 @@ loop3-again c =
       found-passed (meets WasTold) (a .loop3 .j) l _ k (a .loop3 .inv .5) (still-untold word _ still),
       a .loop3 .inv .6,
       found-passed (meets ToldOwns) (a .loop3 .j) l _ k (a .loop3 .inv .7) (still-unowned word _ still),
+      bids-passed (a .loop3 .j) l _ k (a .loop3 .inv .8) (still-unbid word _ still),
     )
 
 mul-u-2 : tie.Need-mul-u-2 Inv-loop2 μ-loop2 Inv-loop3 μ-loop3 Inv-loop μ-loop
@@ -215,6 +217,9 @@ or-told-requires c κs = search needs
 or-owns-requires : tie.Need-or-owns-requires Inv-loop2 μ-loop2 Inv-loop3 μ-loop3 Inv-loop μ-loop
 or-owns-requires c κs = search needs
 
+with-bid-requires : tie.Need-with-bid-requires Inv-loop2 μ-loop2 Inv-loop3 μ-loop3 Inv-loop μ-loop
+with-bid-requires c κs = search needs
+
 mul-v : tie.Need-mul-v Inv-loop2 μ-loop2 Inv-loop3 μ-loop3 Inv-loop μ-loop
 mul-v c = search needs
 
@@ -229,7 +234,7 @@ loop3-less-2 c = omega arith
 
 loop3-again-2 : tie.Need-loop3-again-2 Inv-loop2 μ-loop2 Inv-loop3 μ-loop3 Inv-loop μ-loop
 loop3-again-2 c =
-    let a = c .before .before .before .before .before .before .before .before in
+    let a = c .before .before .before .before .before .before .before .before .before in
     let o = a .before .before .before .before .before .before .before in
     let b = o .loop .self in
     let word = a .before .before .before .before .loop2 .word in
@@ -237,13 +242,14 @@ loop3-again-2 c =
     let h : a .loop3 .j < length (b .turns) = omega (arith, o .loop .inv .0, o .loop .inv .2) in
     let k : a .loop3 .j < length l = omega (arith, h, ap length (a .loop3 .inv .1), length-mapFirst (turned word) (a .loop3 .j) (b .turns)) in (
       omega arith,
-      mapFirst-turn (turned word) (a .loop3 .j) (b .turns) _ h (a .loop3 .inv .1) (c .before .before .turned .ensures),
+      mapFirst-turn (turned word) (a .loop3 .j) (b .turns) _ h (a .loop3 .inv .1) (c .before .before .before .turned .ensures),
       a .loop3 .inv .2,
       a .loop3 .inv .3,
       a .loop3 .inv .4,
-      found-set (meets WasTold) (a .loop3 .j) l _ k (a .loop3 .inv .5) (c .before .or-told .ensures),
+      found-set (meets WasTold) (a .loop3 .j) l _ k (a .loop3 .inv .5) (c .before .before .or-told .ensures),
       a .loop3 .inv .6,
-      found-set (meets ToldOwns) (a .loop3 .j) l _ k (a .loop3 .inv .7) (c .or-owns .ensures),
+      found-set (meets ToldOwns) (a .loop3 .j) l _ k (a .loop3 .inv .7) (c .before .or-owns .ensures),
+      bids-set (a .loop3 .j) l _ k (a .loop3 .inv .8) (c .with-bid .ensures),
     )
 
 wrapping-add-u32-requires-2 : tie.Need-wrapping-add-u32-requires-2 Inv-loop2 μ-loop2 Inv-loop3 μ-loop3 Inv-loop μ-loop
@@ -274,7 +280,8 @@ loop-again-2 c =
     let number = c .before .before .before .wrapping-add-u322 .ensures ∙ ap (λ (s : ℕ). (s + 1) % 2 ^ 32) (a .loop3 .inv .3) in
     let next = slot-is b _ word (all-spoken b (d .loop2 .i) i (d .loop2 .inv .1)) turns (a .loop3 .inv .2) number refl
     (c .before .before .generator-next .ensures ∙ ap (λ (q : ℕ). generatorNext q word) (a .loop3 .inv .4))
-    (began-is b word (a .loop3 .self .turns) (a .loop3 .j) j turns (a .loop3 .inv .7) number (a .loop3 .inv .6) (c .before .latest .ensures)) in
+    (began-is b word (a .loop3 .self .turns) (a .loop3 .j) j turns (a .loop3 .inv .7) number (a .loop3 .inv .6) (c .before .latest .ensures))
+    (waiting-is b word (a .loop3 .self .turns) (a .loop3 .j) j turns (a .loop3 .inv .8)) in
     let same = same-count b _ (a .loop3 .inv .2) in
     let told = all-asked _ WasTold (a .loop3 .j) (j ∙ same) (a .loop3 .inv .5) in (
       o .loop .inv .0,
@@ -300,7 +307,8 @@ returns-2 c =
     let number = c .before .before .before .wrapping-add-u322 .ensures ∙ ap (λ (s : ℕ). (s + 1) % 2 ^ 32) (a .loop3 .inv .3) in
     let next = slot-is b _ word (all-spoken b (d .loop2 .i) i (d .loop2 .inv .1)) turns (a .loop3 .inv .2) number refl
     (c .before .before .generator-next .ensures ∙ ap (λ (q : ℕ). generatorNext q word) (a .loop3 .inv .4))
-    (began-is b word (a .loop3 .self .turns) (a .loop3 .j) j turns (a .loop3 .inv .7) number (a .loop3 .inv .6) (c .before .latest .ensures)) in
+    (began-is b word (a .loop3 .self .turns) (a .loop3 .j) j turns (a .loop3 .inv .7) number (a .loop3 .inv .6) (c .before .latest .ensures))
+    (waiting-is b word (a .loop3 .self .turns) (a .loop3 .j) j turns (a .loop3 .inv .8)) in
     let same = same-count b _ (a .loop3 .inv .2) in
     let told = all-asked _ WasTold (a .loop3 .j) (j ∙ same) (a .loop3 .inv .5) in
     sym (o .loop .inv .3 ∙ stops b _ (o .loop .left) (d .before .before .loop-test .taken) next (sym told ∙ c .if4 .taken))
@@ -350,6 +358,7 @@ run-spec =
     turned-requires
     or-told-requires
     or-owns-requires
+    with-bid-requires
     mul-v
     element-set-from-v
     add-j-2

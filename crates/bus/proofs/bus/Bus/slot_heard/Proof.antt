@@ -12,19 +12,21 @@ use Rattle.bus.specs.declared.find.Query.the-variants.{ToldOwns}
 use Rattle.bus.specs.Bus.{seats, attachedTo}
 use Rattle.bus.specs.Find.{meets}
 use Rattle.bus.specs.Slot.{turned, mapFirst, ownsAmong}
-use Rattle.bus.proofs.Loops.{attached-fit, length-mapFirst, mapFirst-turn, mapFirst-passed, found-passed, found-set}
-use Rattle.bus.proofs.PassedBy.{still-unowned, still-turned}
-use Rattle.bus.proofs.Strides.{heard-is, began-is}
+use Rattle.bus.specs.Waiting.{bidsAmong}
+use Rattle.bus.proofs.Loops.{attached-fit, length-mapFirst, mapFirst-turn, mapFirst-passed, found-passed, found-set, bids-passed, bids-set}
+use Rattle.bus.proofs.PassedBy.{still-unowned, still-unbid, still-turned}
+use Rattle.bus.proofs.Strides.{heard-is, began-is, waiting-is}
 use Rattle.bus.proofs.bus.Bus.slot_heard.Statement.{statement}
 use Rattle.bus.proofs.bus.Bus.slot_heard.Tie as tie
 
 abbrev Inv-loop : tie.InvT-loop
-Inv-loop heard self₀ n quiet owns₀ i₀ self owns i =
+Inv-loop heard self₀ n quiet owns₀ waiting₀ i₀ self owns waiting i =
     (i ≤ n) × (n ≤ seats) × (n ≡ attachedTo self₀) × (length (self₀ .turns) ≡ seats) × (self .turns ≡ mapFirst (turned heard) i (self₀ .turns))
     × (self .count ≡ self₀ .count) × (self .slot ≡ self₀ .slot) × (self .began ≡ self₀ .began) × (owns ≡ ownsAmong i (self .turns))
+    × (waiting ≡ bidsAmong i (self .turns))
 
 abbrev μ-loop : tie.MeasureT-loop
-μ-loop heard self₀ n quiet owns₀ i₀ self owns i = n - i
+μ-loop heard self₀ n quiet owns₀ waiting₀ i₀ self owns waiting i = n - i
 
 nobody : false ≡ ownsAmong 0 []
 unfolding firstFrom
@@ -39,7 +41,7 @@ generator-next-requires c κs = search needs
 loop-holds : tie.Need-loop-holds Inv-loop μ-loop
 loop-holds c =
     let e = c .before .attached .ensures in
-    (search needs, rw e (attached-fit _), e, search (needs, length-mapped), refl, refl, refl, refl, nobody)
+    (search needs, rw e (attached-fit _), e, search (needs, length-mapped), refl, refl, refl, refl, nobody, refl)
 
 mul-t : tie.Need-mul-t Inv-loop μ-loop
 mul-t c = search needs
@@ -73,6 +75,7 @@ loop-again c =
       a .loop .inv .6,
       a .loop .inv .7,
       found-passed (meets ToldOwns) (a .loop .i) l _ k (a .loop .inv .8) (still-unowned (g .heard) _ still),
+      bids-passed (a .loop .i) l _ k (a .loop .inv .9) (still-unbid (g .heard) _ still),
     )
 
 mul-u : tie.Need-mul-u Inv-loop μ-loop
@@ -86,6 +89,9 @@ turned-requires c κs = search needs
 
 or-owns-requires : tie.Need-or-owns-requires Inv-loop μ-loop
 or-owns-requires c κs = search needs
+
+with-bid-requires : tie.Need-with-bid-requires Inv-loop μ-loop
+with-bid-requires c κs = search needs
 
 mul-v : tie.Need-mul-v Inv-loop μ-loop
 mul-v c = search needs
@@ -101,7 +107,7 @@ loop-less-2 c = omega arith
 
 loop-again-2 : tie.Need-loop-again-2 Inv-loop μ-loop
 loop-again-2 c =
-    let a = c .before .before .before .before .before .before .before in
+    let a = c .before .before .before .before .before .before .before .before in
     let g = a .before .before .before .args in
     let h : a .loop .i < length (g .t1 .turns) = omega arith in
     let l = a .loop .self .turns in
@@ -110,11 +116,12 @@ loop-again-2 c =
       a .loop .inv .1,
       a .loop .inv .2,
       a .loop .inv .3,
-      mapFirst-turn (turned (g .heard)) _ _ _ h (a .loop .inv .4) (c .before .turned .ensures),
+      mapFirst-turn (turned (g .heard)) _ _ _ h (a .loop .inv .4) (c .before .before .turned .ensures),
       a .loop .inv .5,
       a .loop .inv .6,
       a .loop .inv .7,
-      found-set (meets ToldOwns) (a .loop .i) l _ k (a .loop .inv .8) (c .or-owns .ensures),
+      found-set (meets ToldOwns) (a .loop .i) l _ k (a .loop .inv .8) (c .before .or-owns .ensures),
+      bids-set (a .loop .i) l _ k (a .loop .inv .9) (c .with-bid .ensures),
     )
 
 wrapping-add-u32-requires : tie.Need-wrapping-add-u32-requires Inv-loop μ-loop
@@ -132,6 +139,7 @@ returns c =
     let number = c .before .wrapping-add-u32 .ensures ∙ ap (λ (s : ℕ). (s + 1) % 2 ^ 32) (a .loop .inv .6) in
     heard-is (g .t1) _ (g .heard) turns (a .loop .inv .5) number refl (a .before .generator-next .ensures)
     (began-is (g .t1) (g .heard) (a .loop .self .turns) (a .loop .i) e turns (a .loop .inv .8) number (a .loop .inv .7) (c .latest .ensures))
+    (waiting-is (g .t1) (g .heard) (a .loop .self .turns) (a .loop .i) e turns (a .loop .inv .9))
 
 pub slot-heard-spec : {M : Type 1} → statement M
 slot-heard-spec =
@@ -152,6 +160,7 @@ slot-heard-spec =
     element-copy-out-u
     turned-requires
     or-owns-requires
+    with-bid-requires
     mul-v
     element-set-from-v
     add-i-2
