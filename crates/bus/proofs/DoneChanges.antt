@@ -30,7 +30,7 @@ use Rattle.bus.specs.Attach.{newcomer, noSuchAddress, occupied, takesSea
 use Rattle.bus.specs.Bus.{seats, unseated, attachedTo, attachedTurns, turnAt, withTurn, refusedBy, done}
 use Rattle.bus.specs.Conditions.{First, MasterAt, SlaveAt}
 use Rattle.bus.specs.Find.{firstOf}
-use Rattle.bus.specs.Queue.{noTarget, noCommand, holds, queuesTelegram, queuesFrom, queuesAt, queues, withSource}
+use Rattle.bus.specs.Queue.{noTarget, noCommand, holds, queuesTelegram, queuesFrom, queuesAt, queues}
 use Rattle.bus.specs.Waiting.{withBid}
 use Rattle.bus.specs.Reply.{withReplies, writes, repliesFrom, repliesAt, replies}
 use Rattle.bus.proofs.Reflects.{first-holds}
@@ -103,7 +103,7 @@ pub record OneTurn (b : Bus) (i : ℕ) (t : Turn) (c : Bus) : Type 0 where
   pub began : c .began ≡ b .began
 
 -- the bus with that turn, and with these bits
-abbrev withBits : Bus → ℕ → Turn → ℕ → Bus
+abbrev pub withBits : Bus → ℕ → Turn → ℕ → Bus
 withBits b i t bits =
     record { turns = set (b .turns) i t; count = b .count; slot = b .slot; ran = b .ran; quiet = b .quiet; began = b .began; waiting = bits }
 
@@ -139,7 +139,7 @@ pub record Queued (b : Bus) (qq : ℕ) (t : Telegram) (c : Bus) : Type 0 where
 
 pub queue-done : (b : Bus) (qq zz pb sb : ℕ) (bytes : List ℕ) → queues b qq zz pb sb bytes .verdict ≡ Done
     → Queued b qq (record { qq = qq; zz = zz; pb = pb; sb = sb; load = loadOf bytes }) (queues b qq zz pb sb bytes .bus)
-unfolding queues queuesFrom queuesTelegram holds withSource
+unfolding queues queuesFrom queuesTelegram holds
 queue-done b qq zz pb sb bytes e = go (firstOf b (Master qq)) refl e
   where
     telegram : ℕ → Telegram

@@ -35,7 +35,7 @@ use Rattle.bus.specs.Attach.{noSuchAddress, occupied, newcomer, takesSea
 use Rattle.bus.specs.Bus.{poweredOn, attachedTo, turnAt, withTurn, refusedBy, done}
 use Rattle.bus.specs.Examples.{Bid, Contest, attached, queued, bidsFrom, bidsGiven, symbols, slotsAfter, given, written, contests, examples}
 use Rattle.bus.specs.Find.{isMasterAt, firstOf, thereIs}
-use Rattle.bus.specs.Queue.{unusable, noTarget, noCommand, holds, queuesTelegram, queuesFrom, queuesAt, queues, withSource}
+use Rattle.bus.specs.Queue.{unusable, noTarget, noCommand, holds, queuesTelegram, queuesFrom, queuesAt, queues}
 use Rattle.bus.specs.Slot.{generatorSays, spoken, slotHeard, slotRun}
 
 -- ---- queueing without line 6, which no part meets: its check symbol need not be computed
@@ -84,7 +84,7 @@ each-shortly [] = refl
 each-shortly (c ∷ cs) = ap₂ {C = List (List Bid)} _∷_ (given-shortly c) (each-shortly cs)
 
 computed : map shortly contests ≡ map (λ (c : Contest). c .bids) contests
-unfolding contests poweredOn attachedTo turnAt withTurn refusedBy done noSuchAddress occupied newcomer takesSeat attaches isMasterAt firstOf thereIs firstFrom unusable noTarget noCommand holds withSource generatorSays spoken slotHeard slotRun addresses.roleOf isMaster halfIndex slaveOf isOwn fresh ready bids sayBid says noneHeld heldIn accepted oldestOf admits restarted cut hearSyn hearQuiet noted hearReading hearSymbol hears readOn reads owned withdrawn hearBid goes masterStart ended more onward readQq readHead readPlace readOne kindOf fitting loadOf
+unfolding contests poweredOn attachedTo turnAt withTurn refusedBy done noSuchAddress occupied newcomer takesSeat attaches isMasterAt firstOf thereIs firstFrom unusable noTarget noCommand holds generatorSays spoken slotHeard slotRun addresses.roleOf isMaster halfIndex slaveOf isOwn fresh ready bids sayBid says noneHeld heldIn accepted oldestOf admits restarted cut hearSyn hearQuiet noted hearReading hearSymbol hears readOn reads owned withdrawn hearBid goes masterStart ended more onward readQq readHead readPlace readOne kindOf fitting loadOf
 computed = refl
 
 -- ---- P1 to P12

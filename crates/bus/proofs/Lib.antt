@@ -3,6 +3,7 @@ pub mod DoneChanges
 pub mod Elapsed
 pub mod EventsTold
 pub mod ExamplesHold
+pub mod Gathered
 pub mod Generator
 pub mod Loops
 pub mod PassedBy

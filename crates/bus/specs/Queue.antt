@@ -48,7 +48,7 @@ unfoldable pub noCommand : ℕ → ℕ → Bool
 noCommand pb sb = cond (unusable pb) true (unusable sb)
 
 -- the bus with that turn in the source's seat, and with the bit of its rank while it is admitted
-unfoldable pub withSource : Bus → ℕ → Turn → Bus
+abbrev pub withSource : Bus → ℕ → Turn → Bus
 withSource b i t =
     record {
       turns = set (b .turns) i t;

@@ -9,6 +9,7 @@ use Rattle.ranks.specs.declared.Next.{Next}
 use Rattle.station.specs.Admission.{bids}
 use Rattle.station.specs.declared.station.Turn.{Turn}
 use Rattle.bus.specs.declared.bus.Bus.{Bus}
+use Rattle.bus.specs.Bus.{attachedTo}
 
 -- the bits and that of a station's rank, if it is admitted and has a telegram waiting
 unfoldable pub withBid : ℕ → Turn → ℕ
@@ -22,6 +23,10 @@ withBids bits (t ∷ ts) = withBids (withBid bits t) ts
 -- those of the first n alone
 abbrev pub bidsAmong : ℕ → List Turn → ℕ
 bidsAmong n ts = withBids 0 (take n ts)
+
+-- those of all attached stations: the laws say that the bus keeps exactly these (proofs/Gathered.antt)
+unfoldable pub gathered : Bus → ℕ
+gathered b = bidsAmong (attachedTo b) (b .turns)
 
 -- the master that will own the wire after this SYN: the least rank, or nobody
 unfoldable pub nextOf : Bus → Next

@@ -19,9 +19,10 @@ use Rattle.station.specs.declared.station.Turn.{Turn}
 use Rattle.station.proofs.Frame.{ready-lasting, hears-lasting}
 use Rattle.bus.specs.declared.bus.Bus.{Bus}
 use Rattle.bus.specs.declared.bus.Answer.{Answer}
-use Rattle.bus.specs.Bus.{poweredOn, attachedTo, turnAt, withTurn}
+use Rattle.bus.specs.Bus.{poweredOn, attachedTo, turnAt}
 use Rattle.bus.specs.Attach.{newcomer}
 use Rattle.bus.specs.Slot.{saidBy, spoken, turned, slotHeard, slotRun}
+use Rattle.bus.proofs.DoneChanges.{withBits}
 use Rattle.promises.specs.Calls.{Call, attach, queue, reply, slot, heard, afterCall, afterCalls, ByteCalls, Reachable}
 use Rattle.promises.specs.Fit.{stationAt}
 use Rattle.promises.proofs.Shared.Arrays.{answer-full}
@@ -115,16 +116,15 @@ module _ (i : ℕ) where
 
   module _ (b : Bus) (r : Reachable b) {g : History} (w : Followed b g) where
     -- a call about one seat
-    one-turn : (j : ℕ) (t : Turn) → (j < attachedTo b → SeatObserved b j g → Observed (t .station .address) (t .station .master) g (t .station))
-        → Followed (withTurn b j t) g
-    unfolding withTurn
-    one-turn j t f = record { idle = w .idle; observed = λ l. by-seat (rw (attached-turn b j t) at l) (ℕ-discrete i j) }
+    one-turn : (j : ℕ) (t : Turn) (bits : ℕ) → (j < attachedTo b → SeatObserved b j g → Observed (t .station .address) (t .station .master) g (t .station))
+        → Followed (withBits b j t bits) g
+    one-turn j t bits f = record { idle = w .idle; observed = λ l. by-seat (rw (attached-turn b j t bits) at l) (ℕ-discrete i j) }
       where
-        by-seat : i < attachedTo b → Dec (i ≡ j) → SeatObserved (withTurn b j t) i g
+        by-seat : i < attachedTo b → Dec (i ≡ j) → SeatObserved (withBits b j t bits) i g
         by-seat l (yes e) =
             let k : j < attachedTo b = omega arith in
-            rw e (subst (TurnObserved g) (sym (turn-same b j t (reachable-fit r .array) k)) (f k (subst (λ (n : ℕ). SeatObserved b n g) e (w .observed l))))
-        by-seat l (no d) = subst (TurnObserved g) (sym (turn-other b j i t d)) (w .observed l)
+            rw e (subst (TurnObserved g) (sym (turn-same b j t bits (reachable-fit r .array) k)) (f k (subst (λ (n : ℕ). SeatObserved b n g) e (w .observed l))))
+        by-seat l (no d) = subst (TurnObserved g) (sym (turn-other b j i t bits d)) (w .observed l)
 
     attach-followed : {a : ℕ} {m : Bool} {x : Answer} → Did b (attach a m) x → Followed (x .bus) g
     attach-followed (refused _) = w
@@ -139,14 +139,14 @@ module _ (i : ℕ) where
 
     queue-followed : {qq zz pb sb : ℕ} {bytes : List ℕ} {x : Answer} → Did b (queue qq zz pb sb bytes) x → Followed (x .bus) g
     queue-followed (refused _) = w
-    queue-followed (queued j t _) =
-        one-turn j (holdingMore (turnAt b j) t)
+    queue-followed (queued {bits = n} j t _) =
+        one-turn j (holdingMore (turnAt b j) t) n
         (λ l v. record { address = v .address; master = v .master; admitted = v .admitted; marked = v .marked; since = v .since; share = v .share })
 
     reply-followed : {a pb sb : ℕ} {bytes : List ℕ} {x : Answer} → Did b (reply a pb sb bytes) x → Followed (x .bus) g
     reply-followed (refused _) = w
-    reply-followed (replied j e _) =
-        one-turn j (answeringMore (turnAt b j) e)
+    reply-followed (replied {bits = n} j e _) =
+        one-turn j (answeringMore (turnAt b j) e) n
         (λ l v. record { address = v .address; master = v .master; admitted = v .admitted; marked = v .marked; since = v .since; share = v .share })
 
   module _ (b : Bus) (r : Reachable b) (k : Known) (v : Account i b k) (w : Followed b (k .history)) where

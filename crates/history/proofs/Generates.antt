@@ -10,7 +10,7 @@ use Rattle.station.specs.declared.phase.Sound.{Sound}
 use Rattle.station.specs.declared.phase.Sound.the-variants.{Quiet, Symbol}
 use Rattle.bus.specs.declared.bus.Bus.{Bus}
 use Rattle.bus.specs.declared.bus.Answer.{Answer}
-use Rattle.bus.specs.Bus.{poweredOn, withTurn}
+use Rattle.bus.specs.Bus.{poweredOn}
 use Rattle.bus.specs.Slot.{generatorSays, generatorNext, spoken, slotHeard, slotRun}
 use Rattle.promises.specs.Calls.{Call, attach, queue, reply, slot, heard, afterCall, afterCalls}
 use Rattle.promises.specs.Silence.{NobodySays}
@@ -38,7 +38,6 @@ next-run hs q e (Symbol s) = refl
 
 -- a call that is no slot leaves the count
 did-quiet : {b : Bus} {c : Call} {x : Answer} → Did b c x → x .bus .quiet ≡ b .quiet
-unfolding withTurn
 did-quiet (refused _) = refl
 did-quiet (attached _ _ _ _) = refl
 did-quiet (queued _ _ _) = refl

@@ -31,10 +31,10 @@ use Rattle.bus.specs.declared.bus.Answer.{Answer}
 use Rattle.bus.specs.declared.refusal.Verdict.{Verdict}
 use Rattle.bus.specs.declared.refusal.Verdict.the-variants.{Done, Refused}
 use Rattle.bus.specs.Attach.{newcomer}
-use Rattle.bus.specs.Bus.{poweredOn, attachedTo, turnAt, withTurn}
+use Rattle.bus.specs.Bus.{poweredOn, attachedTo, turnAt}
 use Rattle.bus.specs.Conditions.{MasterAt, SlaveAt}
 use Rattle.bus.specs.Slot.{spoken, turned, slotHeard, slotRun}
-use Rattle.bus.proofs.DoneChanges.{Queued, Replied, queue-done, reply-done}
+use Rattle.bus.proofs.DoneChanges.{withBits, Queued, Replied, queue-done, reply-done}
 use Rattle.bus.proofs.Reflects.{first-holds}
 use Rattle.promises.specs.Accepted.{telegramOf}
 use Rattle.promises.specs.Calls.{Call, attach, queue, reply, slot, heard, afterCall, afterCalls, ByteCalls, Reachable}
@@ -80,16 +80,16 @@ new-who : (a : ℕ) (m : Bool) → whoOf (newcomer a m) ≡ record { address = a
 unfolding newcomer fresh
 new-who a m = refl
 
-turn-seated : (b : Bus) (r : Reachable b) {ws : List Who} (j : ℕ) (t : Turn) → whoOf t ≡ whoOf (turnAt b j) → Seated b ws → Seated (withTurn b j t) ws
-turn-seated b r {ws} j t same w =
-    record { count = w .count ∙ sym (attached-turn b j t); each = λ i l. by i (rw (attached-turn b j t) at l) (ℕ-discrete i j) }
+turn-seated : (b : Bus) (r : Reachable b) {ws : List Who} (j : ℕ) (t : Turn) (bits : ℕ) → whoOf t ≡ whoOf (turnAt b j) → Seated b ws → Seated (withBits b j t bits) ws
+turn-seated b r {ws} j t bits same w =
+    record { count = w .count ∙ sym (attached-turn b j t bits); each = λ i l. by i (rw (attached-turn b j t bits) at l) (ℕ-discrete i j) }
   where
-    by : (i : ℕ) → i < attachedTo b → Dec (i ≡ j) → getD ws i nobody ≡ whoOf (turnAt (withTurn b j t) i)
+    by : (i : ℕ) → i < attachedTo b → Dec (i ≡ j) → getD ws i nobody ≡ whoOf (turnAt (withBits b j t bits) i)
     by i l (yes e) =
         let k : j < attachedTo b = omega arith in
-        w .each i l ∙ ap (λ (n : ℕ). whoOf (turnAt b n)) e ∙ sym same ∙ ap whoOf (sym (turn-same b j t (reachable-fit r .array) k))
-        ∙ ap (λ (n : ℕ). whoOf (turnAt (withTurn b j t) n)) (sym e)
-    by i l (no d) = w .each i l ∙ ap whoOf (sym (turn-other b j i t d))
+        w .each i l ∙ ap (λ (n : ℕ). whoOf (turnAt b n)) e ∙ sym same ∙ ap whoOf (sym (turn-same b j t bits (reachable-fit r .array) k))
+        ∙ ap (λ (n : ℕ). whoOf (turnAt (withBits b j t bits) n)) (sym e)
+    by i l (no d) = w .each i l ∙ ap whoOf (sym (turn-other b j i t bits d))
 
 module _ (b : Bus) (r : Reachable b) {ws : List Who} (w : Seated b ws) where
   attach-seated : {a : ℕ} {m : Bool} {x : Answer} → Did b (attach a m) x
@@ -117,11 +117,11 @@ module _ (b : Bus) (r : Reachable b) {ws : List Who} (w : Seated b ws) where
 
   queue-seated : {qq zz pb sb : ℕ} {bytes : List ℕ} {x : Answer} → Did b (queue qq zz pb sb bytes) x → Seated (x .bus) ws
   queue-seated (refused _) = w
-  queue-seated (queued j t _) = turn-seated b r j (holdingMore (turnAt b j) t) refl w
+  queue-seated (queued {bits = n} j t _) = turn-seated b r j (holdingMore (turnAt b j) t) n refl w
 
   reply-seated : {a pb sb : ℕ} {bytes : List ℕ} {x : Answer} → Did b (reply a pb sb bytes) x → Seated (x .bus) ws
   reply-seated (refused _) = w
-  reply-seated (replied j e _) = turn-seated b r j (answeringMore (turnAt b j) e) refl w
+  reply-seated (replied {bits = n} j e _) = turn-seated b r j (answeringMore (turnAt b j) e) n refl w
 
   slot-seated : (h : Sound) → Seated (slotHeard b h) ws
   slot-seated h =
@@ -173,14 +173,14 @@ module _ (b : Bus) (r : Reachable b) (i : ℕ) (l : i < attachedTo b) where
       ∙ ap answerFor (hears-lasting (ready s) h .replies ∙ ready-lasting s .replies)
 
   -- a call about one seat leaves what it is not about
-  kept-turn : {A : Type 0} (f : Turn → A) (j : ℕ) (t : Turn) → f t ≡ f (turnAt b j) → f (turnAt (withTurn b j t) i) ≡ f (turnAt b i)
-  kept-turn f j t e = by (ℕ-discrete i j)
+  kept-turn : {A : Type 0} (f : Turn → A) (j : ℕ) (t : Turn) (bits : ℕ) → f t ≡ f (turnAt b j) → f (turnAt (withBits b j t bits) i) ≡ f (turnAt b i)
+  kept-turn f j t bits e = by (ℕ-discrete i j)
     where
-      by : Dec (i ≡ j) → f (turnAt (withTurn b j t) i) ≡ f (turnAt b i)
+      by : Dec (i ≡ j) → f (turnAt (withBits b j t bits) i) ≡ f (turnAt b i)
       by (yes q) =
           let k : j < attachedTo b = omega arith in
-          ap (λ (n : ℕ). f (turnAt (withTurn b j t) n)) q ∙ ap f (turn-same b j t (reachable-fit r .array) k) ∙ e ∙ ap (λ (n : ℕ). f (turnAt b n)) (sym q)
-      by (no d) = ap f (turn-other b j i t d)
+          ap (λ (n : ℕ). f (turnAt (withBits b j t bits) n)) q ∙ ap f (turn-same b j t bits (reachable-fit r .array) k) ∙ e ∙ ap (λ (n : ℕ). f (turnAt b n)) (sym q)
+      by (no d) = ap f (turn-other b j i t bits d)
 
   attach-keeps : {A : Type 0} (f : Turn → A) {a : ℕ} {m : Bool} {x : Answer} → Did b (attach a m) x → f (turnAt (x .bus) i) ≡ f (turnAt b i)
   attach-keeps f (refused _) = refl
@@ -188,11 +188,11 @@ module _ (b : Bus) (r : Reachable b) (i : ℕ) (l : i < attachedTo b) where
 
   reply-held : {a pb sb : ℕ} {bytes : List ℕ} {x : Answer} → Did b (reply a pb sb bytes) x → holds (x .bus) ≡ holds b
   reply-held (refused _) = refl
-  reply-held (replied j e _) = kept-turn (λ (t : Turn). waiting (t .station .outbox)) j (answeringMore (turnAt b j) e) refl
+  reply-held (replied {bits = n} j e _) = kept-turn (λ (t : Turn). waiting (t .station .outbox)) j (answeringMore (turnAt b j) e) n refl
 
   queue-gives : {qq zz pb sb : ℕ} {bytes : List ℕ} {x : Answer} → Did b (queue qq zz pb sb bytes) x → gives (x .bus) ≡ gives b
   queue-gives (refused _) = refl
-  queue-gives (queued j t _) = kept-turn (λ (t : Turn). answerFor (t .station .replies)) j (holdingMore (turnAt b j) t) refl
+  queue-gives (queued {bits = n} j t _) = kept-turn (λ (t : Turn). answerFor (t .station .replies)) j (holdingMore (turnAt b j) t) n refl
 
   -- queue
   is-source : {qq : ℕ} → MasterAt qq (turnAt b i) → isSource qq its ≡ true
@@ -400,11 +400,11 @@ module _ (i : ℕ) where
 
     queue-count : {qq zz pb sb : ℕ} {bytes : List ℕ} {x : Answer} → Did b (queue qq zz pb sb bytes) x → attachedTo (x .bus) ≡ attachedTo b
     queue-count (refused _) = refl
-    queue-count (queued j t _) = attached-turn b j (holdingMore (turnAt b j) t)
+    queue-count (queued {bits = n} j t _) = attached-turn b j (holdingMore (turnAt b j) t) n
 
     reply-count : {a pb sb : ℕ} {bytes : List ℕ} {x : Answer} → Did b (reply a pb sb bytes) x → attachedTo (x .bus) ≡ attachedTo b
     reply-count (refused _) = refl
-    reply-count (replied j e _) = attached-turn b j (answeringMore (turnAt b j) e)
+    reply-count (replied {bits = n} j e _) = attached-turn b j (answeringMore (turnAt b j) e) n
 
     -- a newcomer holds nothing and has no answers
     attach-account : {a : ℕ} {m : Bool} {x : Answer} → Did b (attach a m) x → Seated (x .bus) (attachedAfter b ws (attach a m))

@@ -20,7 +20,7 @@ use Rattle.station.specs.declared.station.Turn.{Turn}
 use Rattle.station.proofs.Ownership.{NotOfOwnership, of-nothing, of-taken, of-failed, of-given, of-answer, Ownership, gained, released, failed-and-left, as-it-was, ownership, owns-only-if, ready-ownership}
 use Rattle.station.proofs.Possible.{ready-possible}
 use Rattle.bus.specs.Attach.{newcomer}
-use Rattle.bus.specs.Bus.{poweredOn, attachedTo, turnAt, withTurn}
+use Rattle.bus.specs.Bus.{poweredOn, attachedTo, turnAt}
 use Rattle.bus.specs.Events.{Line, line, tellings, events}
 use Rattle.bus.specs.Find.{inTransfer, meets, firstOf, thereIs}
 use Rattle.bus.specs.Slot.{spoken, slotHeard, slotRun}
@@ -247,7 +247,6 @@ record SameTimes (b c : Bus) : Type 0 where
   began : c .began ≡ b .began
 
 answer-times : {b : Bus} {c : Call} {x : Answer} → Did b c x → SameTimes b (x .bus)
-unfolding withTurn
 answer-times (refused r) = record { slot = refl; began = refl }
 answer-times (attached _ _ _ _) = record { slot = refl; began = refl }
 answer-times (queued _ _ _) = record { slot = refl; began = refl }

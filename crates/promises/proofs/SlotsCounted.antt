@@ -8,7 +8,7 @@ use lib.Dec.{ltb}
 use Rattle.station.specs.declared.phase.Sound.{Sound}
 use Rattle.bus.specs.declared.bus.Bus.{Bus}
 use Rattle.bus.specs.declared.bus.Answer.{Answer}
-use Rattle.bus.specs.Bus.{poweredOn, withTurn}
+use Rattle.bus.specs.Bus.{poweredOn}
 use Rattle.bus.specs.Slot.{spoken, slotHeard, slotRun}
 use Rattle.promises.specs.Calls.{Call, attach, queue, reply, slot, heard, afterCall, afterCalls}
 use Rattle.promises.specs.Slots.{slotsOf, slotsIn}
@@ -23,7 +23,6 @@ one-more : (n : ℕ) → (n % 2 ^ 32 + 1) % 2 ^ 32 ≡ (n + 1) % 2 ^ 32
 one-more n = omega arith
 
 answer-ran : {n : ℕ} {b : Bus} {c : Call} {x : Answer} → Did b c x → Ran n b → Ran (n + 0) (x .bus)
-unfolding withTurn
 answer-ran {n} (refused r) w = let e : n + 0 ≡ n = omega arith in rw e w
 answer-ran {n} (attached _ _ _ _) w = let e : n + 0 ≡ n = omega arith in rw e (record { number = w .number; any = w .any })
 answer-ran {n} (queued _ _ _) w = let e : n + 0 ≡ n = omega arith in rw e (record { number = w .number; any = w .any })

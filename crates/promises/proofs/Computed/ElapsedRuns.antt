@@ -39,7 +39,7 @@ abbrev row : ℕ → List Call → List Stamped → Timing
 row n cs es = record { from = n; calls = cs; handed = es }
 
 abbrev numbered : ℕ → Bus
-numbered n = record { turns = poweredOn .turns; count = 0; slot = n; ran = false; quiet = 0; began = 0 }
+numbered n = record { turns = poweredOn .turns; count = 0; slot = n; ran = false; quiet = 0; began = 0; waiting = 0 }
 
 abbrev pub handedOut : Timing → List Stamped
 handedOut t =

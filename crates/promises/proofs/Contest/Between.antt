@@ -26,6 +26,7 @@ use Rattle.bus.specs.Reply.{writes, repliesFrom, repliesAt, replies}
 use Rattle.bus.specs.declared.bus.Bus.{Bus}
 use Rattle.bus.specs.declared.bus.Answer.{Answer}
 use Rattle.bus.specs.declared.find.Query.the-variants.{Master, Slave}
+use Rattle.bus.proofs.DoneChanges.{withBits}
 use Rattle.promises.specs.Calls.{Call, attach, afterCall}
 use Rattle.promises.specs.Contest.{Between, attaching, queued, replied}
 use Rattle.promises.specs.Fit.{stationAt}
@@ -72,9 +73,9 @@ after-set P (x ∷ l) zero (suc j) t d p q = p
 after-set P (x ∷ l) (suc i) zero t d p q = p
 after-set P (x ∷ l) (suc i) (suc j) t d p q = after-set P l i j t d p (λ e. q (ap suc e))
 
-stored : (b : Bus) (i : ℕ) (t : Turn) → Keeps (stationAt b i) (t .station) → KeepsAll b (withTurn b i t)
-unfolding withTurn turnAt
-stored b i t k =
+stored : (b : Bus) (i : ℕ) (t : Turn) (bits : ℕ) → Keeps (stationAt b i) (t .station) → KeepsAll b (withBits b i t bits)
+unfolding turnAt
+stored b i t bits k =
     record {
       count = refl;
       quiet = refl;
@@ -102,7 +103,7 @@ holds-keeps : (b : Bus) (i : ℕ) (t : Telegram) → KeepsAll b (holds b i t .bu
 unfolding holds done refusedBy turnAt
 holds-keeps b i t =
     either b (accepted (stationAt b i .outbox) t .taken) _ _
-    (stored b i _
+    (stored b i _ _
     (record {
       address = refl;
       master = refl;
@@ -125,10 +126,10 @@ queue-keeps b (At i) zz pb sb bytes =
 queue-keeps b Missing zz pb sb bytes = same-bus b
 
 writes-keeps : (b : Bus) (i : ℕ) (r : Reply) → KeepsAll b (writes b i r .bus)
-unfolding writes done refusedBy turnAt
+unfolding writes withTurn done refusedBy turnAt
 writes-keeps b i r =
     either b (written (stationAt b i .replies) r .taken) _ _
-    (stored b i _
+    (stored b i _ _
     (record {
       address = refl;
       master = refl;

@@ -27,10 +27,11 @@ use Rattle.station.proofs.Frame.{hears-lasting, ready-lasting}
 use Rattle.bus.specs.declared.bus.Bus.{Bus}
 use Rattle.bus.specs.declared.bus.Answer.{Answer}
 use Rattle.bus.specs.declared.find.Query.the-variants.{Holder}
-use Rattle.bus.specs.Bus.{seats, poweredOn, attachedTo, attachedTurns, turnAt, withTurn}
+use Rattle.bus.specs.Bus.{seats, poweredOn, attachedTo, attachedTurns, turnAt}
 use Rattle.bus.specs.Find.{meets, firstOf, thereIs}
 use Rattle.bus.specs.Attach.{wrongFor, noSuchAddress, occupied, newcomer}
 use Rattle.bus.specs.Slot.{slotHeard}
+use Rattle.bus.proofs.DoneChanges.{withBits}
 use Rattle.laws.proofs.AtMost.{at-most-same}
 use Rattle.laws.proofs.FirstIs.{missing-each}
 use Rattle.promises.specs.Calls.{Call, ByteCall, Reachable}
@@ -146,27 +147,26 @@ module _ (b : Bus) (a : ℕ) (m : Bool) (f : Fit b) (byte : a < 256) (n : noSuch
 
 -- ---- every call
 
-one-turn : (b : Bus) (i : ℕ) (t : Turn) → SameOne (stationAt b i) (t .station) → Fit b → Fit (withTurn b i t)
-unfolding withTurn
-one-turn b i t same f = still-fit b (withTurn b i t) (length-set (b .turns) i t ∙ f .array) (attached-turn b i t) each f
+one-turn : (b : Bus) (i : ℕ) (t : Turn) (bits : ℕ) → SameOne (stationAt b i) (t .station) → Fit b → Fit (withBits b i t bits)
+one-turn b i t bits same f = still-fit b (withBits b i t bits) (length-set (b .turns) i t ∙ f .array) (attached-turn b i t bits) each f
   where
-    each : (j : ℕ) → j < attachedTo b → SameOne (stationAt b j) (stationAt (withTurn b i t) j)
+    each : (j : ℕ) → j < attachedTo b → SameOne (stationAt b j) (stationAt (withBits b i t bits) j)
     each j h = go (ℕ-discrete j i)
       where
-        go : Dec (j ≡ i) → SameOne (stationAt b j) (stationAt (withTurn b i t) j)
+        go : Dec (j ≡ i) → SameOne (stationAt b j) (stationAt (withBits b i t bits) j)
         go (yes e) =
             let k : i < attachedTo b = omega arith in
-            rw e (subst (λ (u : Turn). SameOne (stationAt b i) (u .station)) (sym (turn-same b i t (f .array) k)) same)
+            rw e (subst (λ (u : Turn). SameOne (stationAt b i) (u .station)) (sym (turn-same b i t bits (f .array) k)) same)
         go (no d) =
-            subst (λ (u : Turn). SameOne (stationAt b j) (u .station)) (sym (turn-other b i j t d)) (record { address = refl; master = refl })
+            subst (λ (u : Turn). SameOne (stationAt b j) (u .station)) (sym (turn-other b i j t bits d)) (record { address = refl; master = refl })
 
 answer-fit : {b : Bus} {c : Call} {x : Answer} → ByteCall c → Did b c x → Fit b → Fit (x .bus)
 answer-fit k (refused r) f = f
 answer-fit {b} k (attached {a = a} {m = m} _ n o h) f = newcomer-fit b a m f k n o h
-answer-fit {b} k (queued i t s) f =
-    one-turn b i (holdingMore (turnAt b i) t) (record { address = refl; master = refl }) f
-answer-fit {b} k (replied i r _) f =
-    one-turn b i (answeringMore (turnAt b i) r) (record { address = refl; master = refl }) f
+answer-fit {b} k (queued {bits = n} i t s) f =
+    one-turn b i (holdingMore (turnAt b i) t) n (record { address = refl; master = refl }) f
+answer-fit {b} k (replied {bits = n} i r _) f =
+    one-turn b i (answeringMore (turnAt b i) r) n (record { address = refl; master = refl }) f
 
 pub slot-fit : (b : Bus) (h : Sound) → Fit b → Fit (slotHeard b h)
 slot-fit b h f = still-fit b (slotHeard b h) (whole-slot b h (f .array)) (attached-slot b h) each f
@@ -208,7 +208,6 @@ ready-apart {b} r i j l k d e =
 -- ---- how many are attached
 
 counted-answer : {b : Bus} {c : Call} {x : Answer} → Did b c x → b .count ≤ seats → x .bus .count ≤ seats
-unfolding withTurn
 counted-answer (refused _) w = w
 counted-answer (attached _ _ _ h) w = omega arith
 counted-answer (queued _ _ _) w = w

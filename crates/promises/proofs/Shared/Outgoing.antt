@@ -34,10 +34,11 @@ use Rattle.bus.specs.declared.find.Query.the-variants.{Master}
 use Rattle.bus.specs.declared.refusal.Refusal.{Refusal}
 use Rattle.bus.specs.declared.refusal.Refusal.the-variants.{NoTarget, NoCommand, TooMuchData, TooManySymbols, OutboxFull, NoMaster}
 use Rattle.bus.specs.declared.refusal.Verdict.the-variants.{Done, Refused}
-use Rattle.bus.specs.Bus.{seats, unseated, poweredOn, attachedTo, attachedTurns, turnAt, withTurn, refusedBy, done}
+use Rattle.bus.specs.Bus.{seats, unseated, poweredOn, attachedTo, attachedTurns, turnAt, refusedBy, done}
 use Rattle.bus.specs.Find.{meets, firstOf, isMasterAt}
 use Rattle.bus.specs.Queue.{unusable, noTarget, noCommand, holds, queuesTelegram, queuesFrom, queuesAt, queues}
 use Rattle.bus.proofs.Loops.{attached-fit}
+use Rattle.bus.proofs.DoneChanges.{withBits}
 use Rattle.laws.proofs.FirstIs.{Every, none, next}
 use Rattle.promises.specs.Calls.{Call, afterCall, afterCalls, ByteCall, ByteCalls, Reachable}
 use Rattle.promises.specs.Fit.{stationAt, Fit}
@@ -121,8 +122,8 @@ module _ (a : ℕ) (m : Bool) where
 
 pub data QueueDid (b : Bus) : Answer → Type 0 where
   turned-away : (r : Refusal) → QueueDid b (record { bus = b; verdict = Refused r })
-  took : (i : ℕ) (t : Telegram) → i < attachedTo b → Outgoing (stationAt b i .address) (stationAt b i .master) t
-      → QueueDid b (record { bus = withTurn b i (holdingMore (turnAt b i) t); verdict = Done })
+  took : {bits : ℕ} (i : ℕ) (t : Telegram) → i < attachedTo b → Outgoing (stationAt b i .address) (stationAt b i .master) t
+      → QueueDid b (record { bus = withBits b i (holdingMore (turnAt b i) t) bits; verdict = Done })
 
 found : {A : Type 0} (test : A → Bool) (d : A) (i j : ℕ) (l : List A) → firstFrom test i l ≡ At j
     → (k : ℕ) × (j ≡ i + k) × (k < length l) × (test (getD l k d) ≡ true)

@@ -36,6 +36,7 @@ use Rattle.bus.specs.Attach.{noSuchAddress, occupied, newcomer, takesSeat, atta
 use Rattle.bus.specs.Queue.{noTarget, noCommand, holds, queuesTelegram, queuesFrom, queuesAt, queues}
 use Rattle.bus.specs.Reply.{withReplies, writes, repliesFrom, repliesAt, replies}
 use Rattle.bus.specs.Slot.{spoken, turned, mapFirst, slotHeard, slotRun}
+use Rattle.bus.proofs.DoneChanges.{withBits}
 use Rattle.bus.proofs.Loops.{attached-fit, length-mapFirst}
 use Rattle.laws.proofs.AtMost.{at-most-same}
 use Rattle.laws.proofs.FirstIs.{Every, none, next}
@@ -49,7 +50,7 @@ either-false false t e = (refl, e)
 -- the bus with a newcomer in the next seat
 abbrev pub withNewcomer : Bus → ℕ → Bool → Bus
 withNewcomer b a m =
-    record { turns = set (b .turns) (b .count) (newcomer a m); count = b .count + 1; slot = b .slot; ran = b .ran; quiet = b .quiet; began = b .began }
+    record { turns = set (b .turns) (b .count) (newcomer a m); count = b .count + 1; slot = b .slot; ran = b .ran; quiet = b .quiet; began = b .began; waiting = b .waiting }
 
 -- a seat with a telegram more
 abbrev pub holdingMore : Turn → Telegram → Turn
@@ -61,15 +62,15 @@ abbrev pub answeringMore : Turn → Reply → Turn
 answeringMore t r =
     record { station = withReplies (t .station) (written (t .station .replies) r .book); told = t .told }
 
--- what an answered call did: refused, and the bus is as it was; or done
+-- what an answered call did: refused, and the bus is as it was; or done (which bits of those who wait are set is said in bus, Gathered)
 pub data Did (b : Bus) : Call → Answer → Type 0 where
   refused : {c : Call} (r : Refusal) → Did b c (record { bus = b; verdict = Refused r })
   attached : {a : ℕ} {m : Bool} → b .ran ≡ false → noSuchAddress a m ≡ false → occupied b a m ≡ false → b .count < seats
       → Did b (attach a m) (record { bus = withNewcomer b a m; verdict = Done })
-  queued : {qq zz pb sb : ℕ} {bytes : List ℕ} (i : ℕ) (t : Telegram) → Sixteen (t .load)
-      → Did b (queue qq zz pb sb bytes) (record { bus = withTurn b i (holdingMore (turnAt b i) t); verdict = Done })
-  replied : {a pb sb : ℕ} {bytes : List ℕ} (i : ℕ) (r : Reply) → Sixteen (r .load)
-      → Did b (reply a pb sb bytes) (record { bus = withTurn b i (answeringMore (turnAt b i) r); verdict = Done })
+  queued : {qq zz pb sb : ℕ} {bytes : List ℕ} {bits : ℕ} (i : ℕ) (t : Telegram) → Sixteen (t .load)
+      → Did b (queue qq zz pb sb bytes) (record { bus = withBits b i (holdingMore (turnAt b i) t) bits; verdict = Done })
+  replied : {a pb sb : ℕ} {bytes : List ℕ} {bits : ℕ} (i : ℕ) (r : Reply) → Sixteen (r .load)
+      → Did b (reply a pb sb bytes) (record { bus = withBits b i (answeringMore (turnAt b i) r) bits; verdict = Done })
 
 module _ (b : Bus) {c : Call} where
   turned-down : (r : Refusal) → Did b c (refusedBy b r)
@@ -105,7 +106,7 @@ did-queue b qq zz pb sb bytes = at (firstOf b (Master qq))
     at Missing = turned-down b NoMaster
 
 pub did-reply : (b : Bus) (a pb sb : ℕ) (bytes : List ℕ) → Did b (reply a pb sb bytes) (replies b a pb sb bytes)
-unfolding replies repliesFrom writes done
+unfolding replies repliesFrom writes withTurn done
 did-reply b a pb sb bytes = at (firstOf b (Slave a))
   where
     entry : Reply
@@ -124,9 +125,9 @@ did-reply b a pb sb bytes = at (firstOf b (Slave a))
 abbrev pub Whole : Bus → Type 0
 Whole b = length (b .turns) ≡ seats
 
-pub attached-turn : (b : Bus) (i : ℕ) (t : Turn) → attachedTo (withTurn b i t) ≡ attachedTo b
-unfolding attachedTo withTurn
-attached-turn b i t = refl
+pub attached-turn : (b : Bus) (i : ℕ) (t : Turn) (bits : ℕ) → attachedTo (withBits b i t bits) ≡ attachedTo b
+unfolding attachedTo
+attached-turn b i t bits = refl
 
 pub attached-slot : (b : Bus) (h : Sound) → attachedTo (slotHeard b h) ≡ attachedTo b
 unfolding attachedTo slotHeard
@@ -154,13 +155,13 @@ unfolding attachedTo
 attached-newcomer b a m h = at-most-same (b .count + 1) seats (omega arith)
 
 -- the seat that a call is about, and the others
-pub turn-same : (b : Bus) (i : ℕ) (t : Turn) → Whole b → i < attachedTo b → turnAt (withTurn b i t) i ≡ t
-unfolding turnAt withTurn
-turn-same b i t w h = getD-set-same (b .turns) i t unseated (omega (arith, attached-fit b))
+pub turn-same : (b : Bus) (i : ℕ) (t : Turn) (bits : ℕ) → Whole b → i < attachedTo b → turnAt (withBits b i t bits) i ≡ t
+unfolding turnAt
+turn-same b i t bits w h = getD-set-same (b .turns) i t unseated (omega (arith, attached-fit b))
 
-pub turn-other : (b : Bus) (i j : ℕ) (t : Turn) → j ≢ i → turnAt (withTurn b i t) j ≡ turnAt b j
-unfolding turnAt withTurn
-turn-other b i j t n = getD-set-other (b .turns) i j t unseated n
+pub turn-other : (b : Bus) (i j : ℕ) (t : Turn) (bits : ℕ) → j ≢ i → turnAt (withBits b i t bits) j ≡ turnAt b j
+unfolding turnAt
+turn-other b i j t bits n = getD-set-other (b .turns) i j t unseated n
 
 pub newcomer-seat : (b : Bus) (a : ℕ) (m : Bool) → Whole b → b .count < seats → turnAt (withNewcomer b a m) (b .count) ≡ newcomer a m
 unfolding turnAt
@@ -190,13 +191,13 @@ pub data Seat (b : Bus) (i : ℕ) : Turn → Type 0 where
   holds-more : i < attachedTo b → (t : Telegram) → Sixteen (t .load) → Seat b i (holdingMore (turnAt b i) t)
   answers-more : i < attachedTo b → (r : Reply) → Sixteen (r .load) → Seat b i (answeringMore (turnAt b i) r)
 
-other-turn : (b : Bus) (i : ℕ) (t : Turn) → Whole b → (i < attachedTo b → Seat b i t) → (j : ℕ) → j < attachedTo b
-    → Seat b j (turnAt (withTurn b i t) j)
-other-turn b i t w f j l = go (ℕ-discrete j i)
+other-turn : (b : Bus) (i : ℕ) (t : Turn) (bits : ℕ) → Whole b → (i < attachedTo b → Seat b i t) → (j : ℕ) → j < attachedTo b
+    → Seat b j (turnAt (withBits b i t bits) j)
+other-turn b i t bits w f j l = go (ℕ-discrete j i)
   where
-    go : Dec (j ≡ i) → Seat b j (turnAt (withTurn b i t) j)
-    go (yes e) = let k : i < attachedTo b = omega arith in rw (e, turn-same b i t w k) (f k)
-    go (no d) = rw (turn-other b i j t d) (as-it-was l)
+    go : Dec (j ≡ i) → Seat b j (turnAt (withBits b i t bits) j)
+    go (yes e) = let k : i < attachedTo b = omega arith in rw (e, turn-same b i t bits w k) (f k)
+    go (no d) = rw (turn-other b i j t bits d) (as-it-was l)
 
 pub seat-after : {b : Bus} {c : Call} {x : Answer} → Did b c x → Whole b → (i : ℕ) → i < attachedTo (x .bus) → Seat b i (turnAt (x .bus) i)
 seat-after (refused r) w i l = as-it-was l
@@ -206,15 +207,14 @@ seat-after {b} (attached {a = a} {m = m} _ _ _ h) w i l = go (ℕ-discrete i (b 
     go (yes e) = rw (e, newcomer-seat b a m w h) (newly-taken a m)
     go (no d) =
         rw (other-seat b a m i d) (as-it-was (omega (arith, attached-newcomer b a m h, attached-before b h)))
-seat-after {b} (queued i t s) w j l =
-    other-turn b i (holdingMore (turnAt b i) t) w (λ k. holds-more k t s) j (rw (attached-turn b i (holdingMore (turnAt b i) t)) at l)
-seat-after {b} (replied i r s) w j l =
-    other-turn b i (answeringMore (turnAt b i) r) w (λ k. answers-more k r s) j (rw (attached-turn b i (answeringMore (turnAt b i) r)) at l)
+seat-after {b} (queued {bits = n} i t s) w j l =
+    other-turn b i (holdingMore (turnAt b i) t) n w (λ k. holds-more k t s) j (rw (attached-turn b i (holdingMore (turnAt b i) t) n) at l)
+seat-after {b} (replied {bits = n} i r s) w j l =
+    other-turn b i (answeringMore (turnAt b i) r) n w (λ k. answers-more k r s) j (rw (attached-turn b i (answeringMore (turnAt b i) r) n) at l)
 
 -- ---- the array stays whole
 
 pub whole-answer : {b : Bus} {c : Call} {x : Answer} → Did b c x → Whole b → Whole (x .bus)
-unfolding withTurn
 whole-answer (refused r) w = w
 whole-answer {b} (attached {a = a} {m = m} _ _ _ _) w = length-set (b .turns) (b .count) (newcomer a m) ∙ w
 whole-answer {b} (queued i t _) w = length-set (b .turns) i (holdingMore (turnAt b i) t) ∙ w

@@ -26,9 +26,10 @@ use Rattle.station.proofs.Frame.{Begins, as-it-stood, answers, ready-begins, re
 use Rattle.station.proofs.Possible.{ready-possible}
 use Rattle.bus.specs.declared.bus.Bus.{Bus}
 use Rattle.bus.specs.declared.bus.Answer.{Answer}
-use Rattle.bus.specs.Bus.{poweredOn, attachedTo, turnAt, withTurn}
+use Rattle.bus.specs.Bus.{poweredOn, attachedTo, turnAt}
 use Rattle.bus.specs.Attach.{newcomer}
 use Rattle.bus.specs.Slot.{spoken, slotHeard, slotRun}
+use Rattle.bus.proofs.DoneChanges.{withBits}
 use Rattle.promises.specs.Calls.{Call, attach, queue, reply, slot, heard, afterCall, Reachable}
 use Rattle.promises.specs.Fit.{stationAt}
 use Rattle.promises.proofs.Shared.Arrays.{none-full, oldest-full}
@@ -155,20 +156,19 @@ pub record Together (b : Bus) : Type 0 where
   pub each : (i : ℕ) → i < attachedTo b → Follows so-far (stationAt b i)
 
 module _ (b : Bus) (r : Reachable b) (w : Together b) where
-  one-turn : (i : ℕ) (t : Turn) → (i < attachedTo b → Follows (w .so-far) (t .station)) → Together (withTurn b i t)
-  unfolding withTurn
-  one-turn i t f =
+  one-turn : (i : ℕ) (t : Turn) (bits : ℕ) → (i < attachedTo b → Follows (w .so-far) (t .station)) → Together (withBits b i t bits)
+  one-turn i t bits f =
       record {
         so-far = w .so-far;
         idle = w .idle;
-        each = λ j l. by-seat j (rw (attached-turn b i t) at l) (ℕ-discrete j i);
+        each = λ j l. by-seat j (rw (attached-turn b i t bits) at l) (ℕ-discrete j i);
       }
     where
-      by-seat : (j : ℕ) → j < attachedTo b → Dec (j ≡ i) → Follows (w .so-far) (turnAt (withTurn b i t) j .station)
+      by-seat : (j : ℕ) → j < attachedTo b → Dec (j ≡ i) → Follows (w .so-far) (turnAt (withBits b i t bits) j .station)
       by-seat j l (yes e) =
           let k : i < attachedTo b = omega arith in
-          rw (e, turn-same b i t (reachable-fit r .array) k) (f k)
-      by-seat j l (no d) = rw (turn-other b i j t d) (w .each j l)
+          rw (e, turn-same b i t bits (reachable-fit r .array) k) (f k)
+      by-seat j l (no d) = rw (turn-other b i j t bits d) (w .each j l)
 
   attach-together : {a : ℕ} {m : Bool} {x : Answer} → Did b (attach a m) x → Together (x .bus)
   unfolding newcomer
@@ -183,7 +183,7 @@ module _ (b : Bus) (r : Reachable b) (w : Together b) where
 
   queue-together : {x : Answer} → QueueDid b x → Together (x .bus)
   queue-together (turned-away _) = w
-  queue-together (took i t l g) = one-turn i (holdingMore (turnAt b i) t) after
+  queue-together (took {bits = n} i t l g) = one-turn i (holdingMore (turnAt b i) t) n after
     where
       after : i < attachedTo b → Follows (w .so-far) (holdingMore (turnAt b i) t .station)
       after l =
@@ -199,7 +199,7 @@ module _ (b : Bus) (r : Reachable b) (w : Together b) where
 
   reply-together : {a pb sb : ℕ} {bytes : List ℕ} {x : Answer} → Did b (reply a pb sb bytes) x → Together (x .bus)
   reply-together (refused _) = w
-  reply-together (replied i e _) = one-turn i (answeringMore (turnAt b i) e) after
+  reply-together (replied {bits = n} i e _) = one-turn i (answeringMore (turnAt b i) e) n after
     where
       after : i < attachedTo b → Follows (w .so-far) (answeringMore (turnAt b i) e .station)
       after l =

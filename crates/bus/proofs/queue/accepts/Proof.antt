@@ -2,7 +2,7 @@
 use Rattle.wire.proofs.Buffer.{held-len}
 use borrow.Author.Tests.{lt-ltb, le-ltb}
 use Rattle.bus.specs.Bus.{done}
-use Rattle.bus.specs.Queue.{holds, queuesTelegram, withSource}
+use Rattle.bus.specs.Queue.{holds, queuesTelegram}
 use Rattle.bus.proofs.PutBack.{refused-back}
 use borrow.Author.Needs.{needs}
 use Rattle.bus.proofs.queue.accepts.Statement.{statement}
@@ -27,7 +27,7 @@ accept-requires : tie.Need-accept-requires
 accept-requires c κs = search needs
 
 returns-2 : tie.Need-returns-2
-unfolding queuesTelegram holds withSource done
+unfolding queuesTelegram holds done
 returns-2 c =
     λ b i e. simp (
       e,
