@@ -4,6 +4,8 @@ pub mod Computed
 pub mod Contest
 pub mod ElapsedIsTrue
 pub mod HandedOut
+pub mod NextIsTheWalk
+pub mod NextOwns
 pub mod OneOwner
 pub mod Refused
 pub mod SameSymbol

@@ -38,7 +38,7 @@ rank-of : (k : Rank) (r : ℕ) → k ≡ Of r → rank-number k ≡ r
 unfolding rank-number
 rank-of k r e = ap rank-number e
 
-one-rank : {k : Rank} {r q : ℕ} → k ≡ Of r → k ≡ Of q → r ≡ q
+pub one-rank : {k : Rank} {r q : ℕ} → k ≡ Of r → k ≡ Of q → r ≡ q
 one-rank {k} {r} {q} e g = sym (rank-of k r e) ∙ rank-of k q g
 
 module _ (b : Bus) where
@@ -114,11 +114,11 @@ between-fit : {b c : Bus} → KeepsAll b c → Fit b → Fit c
 between-fit {b} {c} k f =
     still-fit b c (k .array ∙ f .array) (attached-kept k) (λ j h. let s = k .stations j in record { address = s .address; master = s .master }) f
 
-syn-fit : (b : Bus) → Fit b → {c : Call} → SynHeardIn b c → Fit (afterCall b c)
+pub syn-fit : (b : Bus) → Fit b → {c : Call} → SynHeardIn b c → Fit (afterCall b c)
 syn-fit b f (sent e) = rw (hears-word b (Symbol syn) e) (slot-fit b (Symbol syn) f)
 syn-fit b f disturbed = slot-fit b (Symbol syn) f
 
-calls-fit : (b : Bus) → b .ran ≡ true → Fit b → (cs : List Call) → Each Between cs → Fit (afterCalls b cs)
+pub calls-fit : (b : Bus) → b .ran ≡ true → Fit b → (cs : List Call) → Each Between cs → Fit (afterCalls b cs)
 unfolding afterCalls
 calls-fit b e f [] u = f
 calls-fit b e f (c ∷ cs) (k, us) =

@@ -4,6 +4,7 @@ pub mod Contest
 pub mod Elapsed
 pub mod Fit
 pub mod Heard
+pub mod Next
 pub mod Orders
 pub mod Silence
 pub mod Slots
