@@ -1,6 +1,13 @@
 //! The stored runs of `display`: scenarios and their lines, worked out by hand
 //! from 01 and 02. How is told in `docs/STORED_DISPLAY.md`, slot by slot.
 
+use super::{entries, present, same_files, text};
+use crate::display;
+use std::collections::BTreeSet;
+use std::fs;
+use std::io;
+use std::path::Path;
+
 struct Scene {
     name: &'static str,
     /// None: those of the stored scenario of that name.
@@ -248,3 +255,77 @@ const SCENES: &[Scene] = &[
          / 49 next nobody / 50 next nobody",
     ),
 ];
+
+impl Scene {
+    fn file(&self) -> String {
+        format!("{}.bin", self.name)
+    }
+
+    fn bytes(&self) -> Vec<u8> {
+        let of_the_lists = || entries().find(|entry| entry.name == self.name);
+        text::bytes(self.hex.unwrap_or_else(|| of_the_lists().expect("a stored scenario").hex))
+    }
+
+    /// What `second display` prints.
+    fn printed(&self) -> String {
+        String::from_utf8_lossy(&display::run(&self.bytes()).0).into_owned()
+    }
+}
+
+/// Writes the files, their order and the lines of the list. False if `second
+/// display` prints others, or if the folder has other files.
+pub fn store(dir: &Path) -> io::Result<bool> {
+    let data = dir.join("data");
+    fs::create_dir_all(&data)?;
+    let (mut args, mut stdout, mut good) = (String::new(), String::new(), true);
+    for scene in SCENES {
+        let file = scene.file();
+        if scene.printed() != text::plain(scene.lines) {
+            println!("{file}: other lines than the list has");
+            good = false;
+        }
+        fs::write(data.join(&file), scene.bytes())?;
+        args += &format!("{file}\n");
+        stdout += &format!("== {file}\n{}", text::plain(scene.lines));
+    }
+    fs::write(dir.join("args"), args)?;
+    fs::write(dir.join("stdout"), stdout)?;
+    println!("{} files written", SCENES.len());
+    let listed: BTreeSet<String> = SCENES.iter().map(Scene::file).collect();
+    Ok(same_files("the folder", present(&data)?, listed) & good)
+}
+
+#[cfg(test)]
+mod tests {
+    use super::*;
+    use crate::display_coverage::DisplayCoverage;
+
+    #[test]
+    fn lines_are_those_of_the_list() {
+        for scene in SCENES {
+            assert_eq!(scene.printed(), text::plain(scene.lines), "{}", scene.name);
+        }
+    }
+
+    #[test]
+    fn page_names_every_file_once() {
+        let page = include_str!("../../../docs/STORED_DISPLAY.md");
+        for scene in SCENES {
+            let row = format!("| `{}` | ", scene.file());
+            assert_eq!(page.matches(&row).count(), 1, "{row}");
+        }
+    }
+
+    #[test]
+    fn own_names_are_told_from_shared_ones() {
+        let named = |scene: &Scene| scene.name.starts_with("next-");
+        assert!(SCENES.iter().all(|scene| scene.hex.is_some() == named(scene)));
+    }
+
+    #[test]
+    fn everything_is_there() {
+        let mut total = DisplayCoverage::default();
+        SCENES.iter().for_each(|scene| total.add(&display::run(&scene.bytes()).1));
+        assert_eq!(total.missing().join(" "), "");
+    }
+}
