@@ -30,6 +30,8 @@ pub struct Bus {
     symbols: u8,
     admitted: u32,
     marked: u32,
+    /// The last slot was heard as SYN.
+    after_syn: bool,
 }
 
 /// The stations of a set, in attach order.
@@ -66,6 +68,7 @@ impl Bus {
             symbols: 0,
             admitted: 0,
             marked: 0,
+            after_syn: false,
         }
     }
 
@@ -115,6 +118,10 @@ impl Bus {
     pub fn forget_events(&mut self) {
         self.events.clear();
         self.unusable.clear();
+    }
+
+    pub fn is_admitted(&self, station: u8) -> bool {
+        self.admitted >> station & 1 == 1
     }
 
     /// Masters that will send their QQ in the coming slot.
@@ -210,6 +217,7 @@ impl Bus {
         self.slots_go_by(count);
         self.quiet += count as u8;
         self.admitted = 0;
+        self.after_syn = false;
     }
 
     fn pass(&mut self, heard: Heard) {
@@ -221,6 +229,7 @@ impl Bus {
             Some(SYN) => self.hear_syn(),
             Some(symbol) => self.hear_symbol(symbol),
         }
+        self.after_syn = heard == Some(SYN);
         self.transfer.slot_is_over();
         let counts = heard.is_none() && !generated;
         self.quiet = if counts { self.quiet + 1 } else { 0 };
@@ -488,8 +497,13 @@ impl Bus {
     }
 }
 
-/// For the scenario maker: what it may want to know of the wire.
+/// For the scenario maker and the coverage: what they may want to know of the
+/// wire.
 impl Bus {
+    pub fn after_syn(&self) -> bool {
+        self.after_syn
+    }
+
     pub fn symbols_since_syn(&self) -> u8 {
         self.symbols
     }

@@ -2,6 +2,8 @@
 
 use crate::bench;
 use crate::coverage::Coverage;
+use crate::display;
+use crate::display_coverage::DisplayCoverage;
 use crate::every_value;
 use crate::log_coverage::LogCoverage;
 use crate::maker;
@@ -31,6 +33,15 @@ pub fn log_coverage(count: u64, first_seed: u64) -> LogCoverage {
     let mut total = LogCoverage::default();
     for seed in seeds(count, first_seed) {
         log_trial(seed, &mut total);
+    }
+    total
+}
+
+/// The same for displays.
+pub fn display_coverage(count: u64, first_seed: u64) -> DisplayCoverage {
+    let mut total = DisplayCoverage::default();
+    for seed in seeds(count, first_seed) {
+        total.add(&display::run(&maker::make_display(seed)).1);
     }
     total
 }
@@ -78,6 +89,14 @@ fn log_trial(seed: u64, total: &mut LogCoverage) -> Trial {
     Trial::of_seed(seed, scenario, vec![text], ours)
 }
 
+fn display_trial(seed: u64, total: &mut DisplayCoverage) -> Trial {
+    let scenario = maker::make_display(seed);
+    let (ours, seen) = display::run(&scenario);
+    total.add(&seen);
+    let field_of_line = display::field_of_line;
+    Trial { field_of_line, ..Trial::of_seed(seed, scenario, Vec::new(), ours) }
+}
+
 fn value_trial(name: String, file: String, input: Vec<u8>, total: &mut ValueCoverage) -> Trial {
     let (ours, seen) = values::run(&input);
     total.add(&seen);
@@ -105,6 +124,20 @@ pub fn compare(count: u64, first_seed: u64, program: &str, keep: &Path) -> io::R
 pub fn compare_logs(count: u64, first_seed: u64, program: &str, keep: &Path) -> io::Result<bool> {
     let mut total = LogCoverage::default();
     let trials = seeds(count, first_seed).map(|seed| log_trial(seed, &mut total));
+    let agreed = all_agree(trials, program, keep)?;
+    println!("{total}");
+    Ok(agreed)
+}
+
+/// Who is next after each field; true if there was no difference.
+pub fn compare_display(
+    count: u64,
+    first_seed: u64,
+    program: &str,
+    keep: &Path,
+) -> io::Result<bool> {
+    let mut total = DisplayCoverage::default();
+    let trials = seeds(count, first_seed).map(|seed| display_trial(seed, &mut total));
     let agreed = all_agree(trials, program, keep)?;
     println!("{total}");
     Ok(agreed)

@@ -97,6 +97,17 @@ pub fn push_form_refusal(out: &mut Vec<u8>, number: u8, offset: usize) {
     out.push(b'\n');
 }
 
+/// Who is next, by address, or nobody.
+pub fn push_next(out: &mut Vec<u8>, slot: u32, next: Option<u8>) {
+    push_decimal(out, slot);
+    out.extend_from_slice(b" next");
+    match next {
+        Some(master) => push_byte(out, master),
+        None => out.extend_from_slice(b" nobody"),
+    }
+    out.push(b'\n');
+}
+
 pub fn push_end(out: &mut Vec<u8>, slot: u32) {
     out.extend_from_slice(b"end ");
     push_decimal(out, slot);

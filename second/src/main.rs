@@ -4,6 +4,8 @@ mod bench;
 mod bus;
 mod compare;
 mod coverage;
+mod display;
+mod display_coverage;
 mod dyadic;
 mod event;
 mod every_value;
@@ -23,6 +25,7 @@ mod transfer;
 mod types;
 mod value_coverage;
 mod values;
+mod walk;
 mod wire;
 mod wirelog;
 
@@ -34,16 +37,19 @@ use std::process::ExitCode;
 const USAGE: &str = "usage:
   second run                                        scenario on standard input
   second log LENGTH                                 the log, scenario on standard input
+  second display                                    who is next, scenario on standard input
   second values                                     values, fields on standard input
   second make SEED                                  scenario on standard output
   second compare N SEED PROGRAM [KEEP_DIR]          against another program
   second compare-logs N SEED PROGRAM [KEEP_DIR]     the logs against another program
+  second compare-display N SEED PROGRAM [KEEP_DIR]  who is next against another program
   second compare-values N SEED PROGRAM [KEEP_DIR]   values against another program
   second every-value PROGRAM [KEEP_DIR]             every code and value against another program
   second coverage N SEED                            what N scenarios reach
   second lines FILE...                              the lines of scenario files
   second stored DIR                                 writes the stored scenarios
   second stored-logs DIR                            writes the stored logs
+  second stored-display DIR                         writes the stored displays
   second stored-values DIR                          writes the stored values
   second bench PROGRAM                              times another program";
 
@@ -68,6 +74,7 @@ fn dispatch(words: &[&str]) -> Option<io::Result<ExitCode>> {
     match *words {
         ["run"] => Some(run()),
         ["log", length] => Some(run_log(wirelog::length(length)?)),
+        ["display"] => Some(run_display()),
         ["values"] => Some(run_values()),
         ["make", seed] => {
             let seed = seed.parse().ok()?;
@@ -77,27 +84,33 @@ fn dispatch(words: &[&str]) -> Option<io::Result<ExitCode>> {
             let (count, seed) = (count.parse().ok()?, seed.parse().ok()?);
             Some(show_coverage(count, seed))
         }
-        [what @ ("compare" | "compare-logs" | "compare-values"), n, seed, program, ref rest @ ..]
-            if rest.len() <= 1 =>
-        {
-            let compare = match what {
-                "compare" => compare::compare,
-                "compare-logs" => compare::compare_logs,
-                _ => compare::compare_values,
-            };
-            let (count, seed) = (n.parse().ok()?, seed.parse().ok()?);
-            Some(compare(count, seed, program, folder(rest)).map(code))
-        }
         ["every-value", program, ref rest @ ..] if rest.len() <= 1 => {
             Some(compare::every_value(program, folder(rest)).map(code))
         }
         ["lines", ref files @ ..] if !files.is_empty() => Some(show_lines(files)),
         ["stored", dir] => Some(stored::store(Path::new(dir)).map(code)),
         ["stored-logs", dir] => Some(stored::logs::store(Path::new(dir)).map(code)),
+        ["stored-display", dir] => Some(stored::display::store(Path::new(dir)).map(code)),
         ["stored-values", dir] => Some(stored::values::store(Path::new(dir)).map(code)),
         ["bench", program] => Some(timing::time(program).map(code)),
+        [what, n, seed, program, ref rest @ ..] if rest.len() <= 1 => {
+            let compare = comparison(what)?;
+            let (count, seed) = (n.parse().ok()?, seed.parse().ok()?);
+            Some(compare(count, seed, program, folder(rest)).map(code))
+        }
         _ => None,
     }
+}
+
+/// From a number of seeds, the first of them and a program.
+fn comparison(command: &str) -> Option<fn(u64, u64, &str, &Path) -> io::Result<bool>> {
+    Some(match command {
+        "compare" => compare::compare,
+        "compare-logs" => compare::compare_logs,
+        "compare-display" => compare::compare_display,
+        "compare-values" => compare::compare_values,
+        _ => return None,
+    })
 }
 
 /// Where a difference is kept, if no folder is named.
@@ -137,6 +150,11 @@ fn run_log(length: u64) -> io::Result<ExitCode> {
     print(&out)
 }
 
+fn run_display() -> io::Result<ExitCode> {
+    let (out, _) = display::run(&read(io::stdin().lock())?);
+    print(&out)
+}
+
 fn run_values() -> io::Result<ExitCode> {
     let (out, _) = values::run(&read(io::stdin().lock())?);
     print(&out)
@@ -158,11 +176,13 @@ fn show_lines(files: &[&str]) -> io::Result<ExitCode> {
 fn show_coverage(count: u64, seed: u64) -> io::Result<ExitCode> {
     let total = compare::coverage(count, seed);
     let logs = compare::log_coverage(count, seed);
+    let display = compare::display_coverage(count, seed);
     let values = compare::value_coverage(count, seed);
-    println!("{total}\n{logs}\n{values}");
+    println!("{total}\n{logs}\n{display}\n{values}");
     let mut missing: Vec<String> =
         [total.missing(), logs.missing()].concat().iter().map(|name| name.to_string()).collect();
     missing.extend(total.missing_positions());
+    missing.extend(display.missing());
     missing.extend(values.missing());
     if !missing.is_empty() {
         println!("never: {}", missing.join(" "));

@@ -52,7 +52,7 @@ fn field(rest: &[u8]) -> Option<(u8, &[u8])> {
     Some((tag, after.get(..len)?))
 }
 
-fn operation(tag: u8, value: &[u8]) -> Option<Op<'_>> {
+pub fn operation(tag: u8, value: &[u8]) -> Option<Op<'_>> {
     Some(match (tag, value) {
         (0x01, &[address]) => Op::Master(address),
         (0x02, &[address]) => Op::Slave(address),
@@ -63,6 +63,21 @@ fn operation(tag: u8, value: &[u8]) -> Option<Op<'_>> {
         (0x07, &[]) => Op::Quiet,
         _ => return None,
     })
+}
+
+/// The field that a line is about where each has one; none if the form is bad.
+pub fn field_of_line<'a, T>(
+    bytes: &'a [u8],
+    line: usize,
+    meaning: impl Fn(u8, &'a [u8]) -> Option<T>,
+) -> Option<Vec<u8>> {
+    let whole = fields(bytes, |tag, value| {
+        meaning(tag, value)?;
+        let mut field = Vec::new();
+        push_field(&mut field, tag, value, &[]);
+        Some(field)
+    });
+    whole.ok()?.into_iter().nth(line.checked_sub(1)?)
 }
 
 /// The other way round: one field at the end of a file.

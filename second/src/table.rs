@@ -185,6 +185,10 @@ impl Table {
         }
     }
 
+    pub fn telegrams(&self, station: u8) -> u8 {
+        self.queues[station as usize].held
+    }
+
     /// The address the station was attached with.
     pub fn name(&self, station: u8) -> u8 {
         self.names[station as usize]

@@ -95,11 +95,5 @@ fn push_shares(out: &mut Vec<u8>, codes: &[u8]) {
 
 /// The field that a line is about; none if the form is bad.
 pub fn field_of_line(bytes: &[u8], line: usize) -> Option<Vec<u8>> {
-    let fields = scenario::fields(bytes, |tag, value| {
-        asked(tag, value)?;
-        let mut field = Vec::new();
-        scenario::push_field(&mut field, tag, value, &[]);
-        Some(field)
-    });
-    fields.ok()?.into_iter().nth(line.checked_sub(1)?)
+    scenario::field_of_line(bytes, line, asked)
 }

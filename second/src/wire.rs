@@ -35,6 +35,11 @@ pub fn class(symbol: u8) -> u8 {
     symbol & 0x0F
 }
 
+/// Priority class first, then sub-address: the order among masters.
+pub fn rank(master: u8) -> (u8, u8) {
+    (class(master), master >> 4)
+}
+
 /// In data and in the check symbol.
 pub fn goes_as_pair(value: u8) -> bool {
     matches!(value, SYN | ESC)

@@ -10,13 +10,19 @@ use crate::transfer::Stage;
 use crate::wire::{Wire, ACK, BROADCAST, ESC, NAK, SYN};
 
 /// The addresses a foreign part is being spelled with.
-struct Plan {
+pub struct Plan {
     source: u8,
     target: u8,
 }
 
+impl Plan {
+    pub fn new() -> Plan {
+        Plan { source: 0x10, target: BROADCAST }
+    }
+}
+
 pub fn fill(draft: &mut Draft) {
-    let mut plan = Plan { source: 0x10, target: BROADCAST };
+    let mut plan = Plan::new();
     for _ in 0..draft.random.between(20, 260) {
         let idle = draft.bench.bus.table().waiting() == 0;
         if draft.random.percent(if idle { 35 } else { 8 }) {
@@ -28,7 +34,7 @@ pub fn fill(draft: &mut Draft) {
     draft.run(last);
 }
 
-fn step(draft: &mut Draft, plan: &mut Plan) {
+pub fn step(draft: &mut Draft, plan: &mut Plan) {
     let bus = &draft.bench.bus;
     if bus.contenders() != 0 {
         return contest(draft);
@@ -45,7 +51,7 @@ fn step(draft: &mut Draft, plan: &mut Plan) {
     }
 }
 
-fn run_to_syn(draft: &mut Draft) {
+pub fn run_to_syn(draft: &mut Draft) {
     let slots = draft.bench.bus.slots_to_syn();
     if draft.random.percent(90) {
         return draft.run(slots);

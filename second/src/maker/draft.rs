@@ -71,7 +71,7 @@ impl Draft {
         }
     }
 
-    fn attach_master(&mut self, address: u8) {
+    pub fn attach_master(&mut self, address: u8) {
         let before = self.bench.bus.table().count();
         self.put(Op::Master(address));
         if self.bench.bus.table().count() > before {

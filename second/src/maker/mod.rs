@@ -1,8 +1,9 @@
 //! Random scenarios. Every second one is made blind, the others with the
-//! simulator in the loop, so that it is disturbed where it hurts. And random
-//! fields for the program `values`.
+//! simulator in the loop, so that it is disturbed where it hurts. Some more for
+//! the program `display`, and random fields for the program `values`.
 
 mod aimed;
+mod around_syn;
 mod blind;
 mod broken_pair;
 mod draft;
@@ -30,6 +31,17 @@ fn fill(draft: &mut Draft) {
     } else {
         aimed::fill(draft);
     }
+}
+
+/// A scenario for the display: one in three as any other, the others around
+/// SYN, where its answers change.
+pub fn make_display(seed: u64) -> Vec<u8> {
+    if seed.is_multiple_of(3) {
+        return make(seed);
+    }
+    let mut draft = Draft::new(seed);
+    around_syn::fill(&mut draft);
+    ruin::ruin(draft)
 }
 
 /// A scenario and a length for its log.

@@ -8,6 +8,7 @@ mod access;
 mod answers;
 mod broken_pair;
 mod calls;
+pub mod display;
 mod elapsed;
 mod form;
 pub mod logs;

@@ -36,9 +36,14 @@ pub fn lines(text: &str) -> String {
     String::from_utf8_lossy(HEADER).into_owned() + &plain(text)
 }
 
-/// The lines alone.
+/// The lines alone; `x *3` stands for three times x, and no text for no line.
 pub fn plain(text: &str) -> String {
-    text.split('/').map(|line| format!("{}\n", line.trim())).collect()
+    let mut out = String::new();
+    for line in text.split('/').map(str::trim).filter(|line| !line.is_empty()) {
+        let (line, times) = line.split_once(" *").unwrap_or((line, "1"));
+        out += &format!("{line}\n").repeat(times.parse().expect("a number of times"));
+    }
+    out
 }
 
 #[cfg(test)]
@@ -55,5 +60,7 @@ mod tests {
     #[test]
     fn lines_and_slashes() {
         assert_eq!(lines("11 10 owns\n  / end 11"), "ebus bench\n11 10 owns\nend 11\n");
+        assert_eq!(plain("a b *2\n / c"), "a b\na b\nc\n");
+        assert_eq!(plain(""), "");
     }
 }

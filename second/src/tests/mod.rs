@@ -5,6 +5,7 @@
 mod access;
 mod answers;
 mod broken_pair;
+mod display;
 mod elapsed;
 mod exact;
 mod foreign;
