@@ -1,2 +1,3 @@
-pub mod Bits
 pub mod Before
+pub mod Bits
+pub mod Worked
