@@ -3,7 +3,7 @@
 use mathlib.Core.Path.{_≡_, refl, sym, ap, _∙_}
 use mathlib.Core.Bool.{false≢true}
 use mathlib.Core.Logic.{_↔_, _⊎_, inl, inr, ⊎-elim}
-use Prim.Native.Nat.{ℕ, _+_, _*_, _<_}
+use Prim.Native.Nat.{ℕ, _+_, _*_, _/_, _%_, _<_}
 use native.Mathlib.Nat.{eq-or-lt-of-le}
 use native.Mathlib.Omega.{arith}
 use lib.Dec.{ltb, ltb→lt}
@@ -14,7 +14,7 @@ use Rattle.address.specs.declared.Index.the-variants.{At, Nowhere}
 use Rattle.address.specs.declared.Rank.{Rank}
 use Rattle.address.specs.declared.Rank.the-variants.{Of, Nobody}
 use Rattle.laws.proofs.Computed.{below, same}
-use Rattle.address.proofs.Halves.{class-below, sub-below}
+use Rattle.address.proofs.Halves.{half-at-below, class-below, sub-below}
 use Rattle.address.proofs.Masters.{ranked}
 
 -- a rank as a number: below 25 where there is one, and 25 for nobody's
@@ -34,6 +34,11 @@ rank-taken r h = (
   ltb→lt (masterAt r) 256 (below (λ r. ltb (masterAt r) 256) 25 tt r h),
   place-is (rankOf (masterAt r)) r h (same (λ r. place (rankOf (masterAt r))) (λ r. r) 25 tt r h),
 )
+
+-- and of whatever number the master is asked for, a byte is given
+pub master-at-byte : (r : ℕ) → masterAt r < 256
+unfolding masterAt
+master-at-byte r = omega (arith, half-at-below (r % 5), half-at-below (r / 5))
 
 -- the master of an address's rank, and the address itself where it has none
 returned : Rank → ℕ → ℕ

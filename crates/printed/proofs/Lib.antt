@@ -5,3 +5,4 @@ pub mod OneOutcome
 pub mod OtherLines
 pub mod Output
 pub mod Reached
+pub mod ShownIsTheWalk

@@ -16,7 +16,7 @@ use Rattle.address.specs.Half.{halfIndex, classOf, subOf}
 use Rattle.address.specs.Master.{rankOf, masterAt}
 use Rattle.address.specs.declared.Rank.{Rank}
 use Rattle.address.specs.declared.Rank.the-variants as rank
-use Rattle.address.proofs.Ranks.{master-of-rank, rank-below}
+use Rattle.address.proofs.Ranks.{master-of-rank, master-at-byte, rank-below}
 use Rattle.ranks.specs.declared.Next.{Next}
 use Rattle.ranks.specs.declared.Next.the-variants.{Master, Nobody}
 use Rattle.ranks.specs.Before.{before, orBefore}
@@ -71,6 +71,19 @@ least-means bits p l =
 pub least-none : leastOf 0 ≡ Nobody
 unfolding leastOf
 least-none = refl
+
+-- an address is a byte
+pub data IsByte : Next → Type 0 where
+  master : {a : ℕ} → a < 256 → IsByte (Master a)
+  nobody : IsByte Nobody
+
+pub least-byte : (bits : ℕ) → IsByte (leastOf bits)
+unfolding leastOf
+least-byte bits = go (eqb bits 0)
+  where
+    go : (t : Bool) → IsByte (cond t Nobody (Master (masterAt (trailingZeros 32 bits))))
+    go true = nobody
+    go false = master (master-at-byte (trailingZeros 32 bits))
 
 -- by halves as by rank, computed for each two of the 25
 order : (m : ℕ) → m < 625 → before (masterAt (m / 25)) (masterAt (m % 25)) ≡ ltb (m / 25) (m % 25)

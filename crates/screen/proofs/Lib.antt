@@ -1,0 +1,12 @@
+pub mod ALineEachField
+pub mod ALineEachItem
+pub mod DisplayPrints
+pub mod Fewer
+pub mod Filling
+pub mod FillsAreShown
+pub mod LineFeeds
+pub mod LinesByFields
+pub mod LinesFit
+pub mod LinesReadBack
+pub mod SlotNumbers
+pub mod Worked
