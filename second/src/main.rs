@@ -51,7 +51,8 @@ const USAGE: &str = "usage:
   second stored-logs DIR                            writes the stored logs
   second stored-display DIR                         writes the stored displays
   second stored-values DIR                          writes the stored values
-  second bench PROGRAM                              times another program";
+  second bench PROGRAM                              times another program
+  second bench-display PROGRAM                      times another display";
 
 fn main() -> ExitCode {
     let args: Vec<String> = std::env::args().skip(1).collect();
@@ -92,7 +93,8 @@ fn dispatch(words: &[&str]) -> Option<io::Result<ExitCode>> {
         ["stored-logs", dir] => Some(stored::logs::store(Path::new(dir)).map(code)),
         ["stored-display", dir] => Some(stored::display::store(Path::new(dir)).map(code)),
         ["stored-values", dir] => Some(stored::values::store(Path::new(dir)).map(code)),
-        ["bench", program] => Some(timing::time(program).map(code)),
+        ["bench", program] => Some(timing::bench(program).map(code)),
+        ["bench-display", program] => Some(timing::display(program).map(code)),
         [what, n, seed, program, ref rest @ ..] if rest.len() <= 1 => {
             let compare = comparison(what)?;
             let (count, seed) = (n.parse().ok()?, seed.parse().ok()?);

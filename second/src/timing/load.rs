@@ -7,6 +7,7 @@ use crate::wire::{is_master, slave_of, SYN};
 pub struct Load {
     pub name: &'static str,
     pub scenario: Vec<u8>,
+    /// Or lines, where each is asked for.
     pub slots: u32,
 }
 
@@ -26,6 +27,30 @@ pub fn all() -> [Load; 12] {
         sender("all of 32", 32, BROADCAST),
     ]
 }
+
+/// Who is next, asked over and over between a SYN and the next slot, with one
+/// master waiting and so many stations attached.
+pub fn asked() -> [Load; 4] {
+    [empty(), asks("asks of 1", 1), asks("asks of 8", 8), asks("asks of 32", 32)]
+}
+
+fn asks(name: &'static str, stations: usize) -> Load {
+    let masters = masters();
+    let seated = masters.len().min(stations);
+    let mut scenario = File::new(name, &masters[..seated], &SLAVES[..stations - seated]).scenario;
+    let head = [masters[0], BROADCAST, 0x50, 0x02];
+    scenario::write(&mut scenario, &Op::Queue { head, data: &[] });
+    scenario::write(&mut scenario, &Op::Heard(SYN));
+    let fields = stations + 2;
+    let runs = ASKS - fields;
+    for _ in 0..runs {
+        scenario::write(&mut scenario, &Op::Run(0));
+    }
+    Load { name, scenario, slots: ASKS as u32 }
+}
+
+/// As many lines for each of them.
+const ASKS: usize = 13_000;
 
 fn empty() -> Load {
     Load { name: "empty", scenario: Vec::new(), slots: 0 }
@@ -170,6 +195,18 @@ fn rest() -> Load {
 mod tests {
     use super::*;
     use crate::bench;
+    use crate::display;
+
+    #[test]
+    fn asked_loads_have_as_many_lines_as_they_say() {
+        for load in &asked()[1..] {
+            assert!(load.scenario.len() <= MAX_BYTES);
+            let printed = String::from_utf8(display::run(&load.scenario).0).unwrap();
+            assert_eq!(printed.lines().count(), load.slots as usize, "{}", load.name);
+            let next = printed.lines().filter(|line| *line == "1 next 00").count();
+            assert!(next > load.slots as usize - 40, "{}", load.name);
+        }
+    }
 
     #[test]
     fn loads_are_good_form_and_as_long_as_they_say() {
