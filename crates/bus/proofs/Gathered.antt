@@ -1,8 +1,8 @@
 -- The bits that the bus keeps are those that would be gathered from all attached stations, after every call (02, E7). Assumes nothing.
-use mathlib.Core.Path.{_≡_, refl, sym, ap, subst, _∙_}
-use mathlib.Core.Bool.{Bool, true, false, cond, true≢false, false≢true}
+use mathlib.Core.Path.{_≡_, refl, sym, ap, _∙_}
+use mathlib.Core.Bool.{Bool, true, false, cond, false≢true}
 use mathlib.Core.List.{List, [], _∷_}
-use Prim.Native.Nat.{ℕ, zero, suc, _+_, _≤_, _<_}
+use Prim.Native.Nat.{ℕ, zero, suc, _+_, _<_}
 use native.Mathlib.Omega.{arith}
 use borrow.Author.Tests.{lt-ltb}
 use lib.Dec.{ltb}
@@ -29,7 +29,7 @@ use Rattle.bus.specs.Queue.{queues}
 use Rattle.bus.specs.Reply.{replies}
 use Rattle.bus.specs.Slot.{slotHeard}
 use Rattle.bus.specs.Waiting.{withBid, withBids, bidsAmong, gathered}
-use Rattle.bus.proofs.DoneChanges.{Seated, OneTurn, Queued, Replied, holding, answering, attach-done, queue-done, reply-done}
+use Rattle.bus.proofs.DoneChanges.{Seated, Queued, Replied, holding, answering, attach-done, queue-done, reply-done}
 use Rattle.bus.proofs.Loops.{attached-fit, bids-set, no-bid, same-count}
 use Rattle.bus.proofs.RefusedChangesNothing.{attach-refused, queue-refused, reply-refused}
 

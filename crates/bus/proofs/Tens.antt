@@ -45,7 +45,7 @@ use Rattle.bus.specs.Run.{runs}
 use Rattle.bus.specs.Slot.{wired, patience, generatorSays, saidBy, spokenWith, spoken, turned, mapFirst, ownsAmong, slotHeard, slotRun}
 use Rattle.bus.specs.Strides.{atRest}
 use Rattle.bus.specs.Told.{isTold, isOwns}
-use Rattle.bus.specs.Waiting.{withBid, withBids, bidsAmong}
+use Rattle.bus.specs.Waiting.{withBid, withBids}
 use Rattle.laws.proofs.FirstIs.{Every, none, next, every-map, missing-each, each-missing}
 
 -- ---- a station at rest

@@ -8,7 +8,7 @@ use Rattle.walk.specs.Form.{formOf}
 use Rattle.walk.specs.Moments.{Now, moments}
 use Rattle.walk.specs.declared.form.Form.the-variants.{Good}
 use Rattle.screen.specs.Output.{displayed}
-use Rattle.screen.specs.ReadBack.{Said, readText, saidOf}
+use Rattle.screen.specs.ReadBack.{readText, saidOf}
 use Rattle.screen.proofs.LinesReadBack.{lines-read-back}
 use Rattle.promises.proofs.NextIsTheWalk.{next-is-the-walk}
 use Rattle.printed.specs.ShownWalk.{walkedOf}

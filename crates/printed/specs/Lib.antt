@@ -1,4 +1,4 @@
 pub mod Order
 pub mod ReadLine
-pub mod ToldLines
 pub mod ShownWalk
+pub mod ToldLines

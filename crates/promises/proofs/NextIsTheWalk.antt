@@ -1,40 +1,37 @@
 -- Who is next, read from the bits, is who a walk over all attached stations finds; and which bits are set (02, E7). Assumes nothing.
 use mathlib.Core.Path.{_≡_, refl, sym, ap, subst, _∙_}
-use mathlib.Core.Bool.{Bool, true, false, cond, true≢false, false≢true}
+use mathlib.Core.Bool.{Bool, true, false, cond, false≢true}
 use mathlib.Core.List.{List, [], _∷_}
 use mathlib.Core.Logic.{_↔_, _⊎_, inl, inr, ⊎-elim}
-use Prim.Native.Nat.{ℕ, zero, suc, _^_, _≤_, _<_}
+use Prim.Native.Nat.{ℕ, zero, suc, _^_, _<_}
 use native.Mathlib.Omega.{arith}
 use lib.ListN.{length, getD, take}
 use lib.Seq.{getD-take, length-take-le}
 use Rattle.laws.proofs.FirstIs.{Every, none, next}
-use Rattle.address.specs.Master.{isMaster, rankOf}
+use Rattle.address.specs.Master.{rankOf}
 use Rattle.address.specs.declared.Rank.the-variants.{Of}
 use Rattle.address.proofs.Masters.{master-exactly-when-ranked}
 use Rattle.ranks.specs.Bits.{withRank, leastOf, IsSet, ranks}
 use Rattle.ranks.specs.Before.{orBefore}
 use Rattle.ranks.specs.declared.Next.{Next}
-use Rattle.ranks.specs.declared.Next.the-variants.{Master, Nobody}
 use Rattle.ranks.proofs.Digits.{none-set}
 use Rattle.ranks.proofs.LeastRank.{least-none, least-with, few-with, set-with}
 use Rattle.station.specs.Admission.{admitsAfter, admits, bids}
 use Rattle.station.specs.Station.{ready, fresh}
-use Rattle.station.specs.Hear.{hears}
 use Rattle.station.specs.declared.phase.Sound.{Sound}
 use Rattle.station.specs.declared.station.Station.{Station}
 use Rattle.station.specs.declared.station.Turn.{Turn}
 use Rattle.station.proofs.Aa.{IsSyn, NoSyn, by-sound}
 use Rattle.station.proofs.AfterSyn.{after-syn}
-use Rattle.station.proofs.Frame.{admission-over, hears-lasting, ready-lasting}
+use Rattle.station.proofs.Frame.{admission-over}
 use Rattle.bus.specs.Attach.{newcomer}
-use Rattle.bus.specs.Bus.{seats, unseated, poweredOn, attachedTo, attachedTurns, turnAt}
-use Rattle.bus.specs.Slot.{spoken, turned, slotHeard, slotRun}
+use Rattle.bus.specs.Bus.{unseated, attachedTo, attachedTurns, turnAt}
+use Rattle.bus.specs.Slot.{spoken, turned, slotRun}
 use Rattle.bus.specs.Waiting.{withBid, withBids, gathered, nextOf}
 use Rattle.bus.specs.declared.bus.Bus.{Bus}
 use Rattle.bus.proofs.Gathered.{Gathered, on-gathered, slot-gathered, attach-gathered, queue-gathered, reply-gathered}
 use Rattle.bus.proofs.Loops.{attached-fit}
 use Rattle.promises.specs.Calls.{Call, attach, queue, reply, slot, heard, afterCall, afterCalls, Reachable}
-use Rattle.promises.specs.Contest.{Contends, Ranks}
 use Rattle.promises.specs.Fit.{stationAt, Fit}
 use Rattle.promises.specs.Next.{walkFrom, walkOver, MasterWaits}
 use Rattle.promises.proofs.Contest.Round.{bid-means, means-bid}
@@ -107,9 +104,6 @@ unfolding withBid
 walk-from w l none = (refl, l)
 walk-from w l (next {a = t} {l = ts} k ks) = go (bids (t .station)) refl (λ v h. walk-from v h ks)
   where
-    a : ℕ
-    a = t .station .address
-
     go : (u : Bool) → bids (t .station) ≡ u → ((v : ℕ) → v < 2 ^ ranks → (leastOf (withBids v ts) ≡ walkFrom (leastOf v) ts) × (withBids v ts < 2 ^ ranks))
         → (leastOf (withBids (cond u (withRank w (t .station .address)) w) ts) ≡ walkFrom (cond u (orBefore (leastOf w) (t .station .address)) (leastOf w)) ts)
         × (withBids (cond u (withRank w (t .station .address)) w) ts < 2 ^ ranks)

@@ -1,22 +1,21 @@
 -- Who is next after a SYN owns the wire by the twelfth slot; with nobody next, nobody bids; and only an AA makes anybody next (02, E7).
 -- Assumes nothing.
 use mathlib.Core.Path.{_≡_, refl, sym, ap, subst, _∙_}
-use mathlib.Core.Bool.{Bool, true, false, cond, true≢false, false≢true}
+use mathlib.Core.Bool.{Bool, true, false, true≢false, false≢true}
 use mathlib.Core.List.{List, _∷_}
 use mathlib.Core.Logic.{⊎-elim}
 use Prim.Native.Nat.{ℕ, _^_, _≤_, _<_}
 use native.Mathlib.Nat.{eq-zero-or-pos}
 use native.Mathlib.Omega.{arith}
 use lib.Count.{trailingZeros}
-use Rattle.address.specs.Master.{rankOf, masterAt}
-use Rattle.address.specs.declared.Rank.{Rank}
+use Rattle.address.specs.Master.{masterAt}
 use Rattle.address.specs.declared.Rank.the-variants.{Of}
 use Rattle.address.proofs.Ranks.{master-of-rank}
 use Rattle.ranks.specs.Bits.{leastOf, IsSet, ranks}
 use Rattle.ranks.specs.declared.Next.{Next}
 use Rattle.ranks.specs.declared.Next.the-variants.{Master, Nobody}
 use Rattle.ranks.proofs.LeastRank.{least-none, least-means}
-use Rattle.ranks.proofs.Digits.{Lowest, none-set}
+use Rattle.ranks.proofs.Digits.{none-set}
 use Rattle.station.specs.Admission.{bids}
 use Rattle.station.specs.declared.phase.Sound.{Sound}
 use Rattle.station.specs.declared.phase.Sound.the-variants.{Quiet}
@@ -34,11 +33,11 @@ use Rattle.promises.specs.Contest.{SynHeardIn, Between, Undisturbed, Eac
 use Rattle.promises.specs.Fit.{stationAt, Fit}
 use Rattle.promises.specs.Next.{MasterWaits}
 use Rattle.promises.specs.Slots.{slotsIn}
-use Rattle.promises.proofs.Contest.Round.{bid-means, means-bid, opens-says}
+use Rattle.promises.proofs.Contest.Round.{bid-means, opens-says}
 use Rattle.promises.proofs.Contest.Twelfth.{Begun, begun-heard, begun-between}
 use Rattle.promises.proofs.NextIsTheWalk.{Kept, kept-call, kept-calls, reachable-kept, OnlyMasters, bits-below, bit-means}
 use Rattle.promises.proofs.Shared.FitKept.{slot-fit, reachable-fit}
-use Rattle.promises.proofs.Shared.Seats.{attached-slot, slot-seat, whole-slot}
+use Rattle.promises.proofs.Shared.Seats.{attached-slot, slot-seat}
 use Rattle.promises.proofs.TheLeast.{syn-fit, calls-fit, one-rank, attached-master-ranks, least-rank-owns-by-the-twelfth}
 
 shown : Next → ℕ

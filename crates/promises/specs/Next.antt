@@ -5,7 +5,7 @@ use mathlib.Core.List.{List, [], _∷_}
 use Prim.Native.Nat.{ℕ}
 use Rattle.ranks.specs.Before.{orBefore}
 use Rattle.ranks.specs.declared.Next.{Next}
-use Rattle.ranks.specs.declared.Next.the-variants.{Master, Nobody}
+use Rattle.ranks.specs.declared.Next.the-variants.{Nobody}
 use Rattle.station.specs.Admission.{bids}
 use Rattle.station.specs.declared.station.Turn.{Turn}
 use Rattle.bus.specs.Bus.{attachedTurns}

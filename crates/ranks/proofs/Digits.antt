@@ -5,7 +5,7 @@ use Prim.Native.Nat.{ℕ, zero, suc, _+_, _*_, _/_, _%_, _^_, _≤_, _<_, min}
 use native.Mathlib.Nat.{div-add-mod', mod-lt, mod-eq-of-lt, zero-lt-suc, pow-suc, one-mul, suc-min-suc, min-zero, zero-min}
 use native.Mathlib.Omega.{arith}
 use lib.Arith.{bin-ind}
-use lib.Bits.{bitOr, or-shr, or-mod, or-zero-l, or-zero-r, shifted-half, shifted-even}
+use lib.Bits.{bitOr, or-shr, or-mod, or-zero-r, shifted-half, shifted-even}
 use lib.Pow.{pow-lt}
 use lib.Count.{under, trailingZeros}
 use Rattle.ranks.specs.Bits.{bitAt, IsSet}
@@ -79,9 +79,6 @@ pow-low q = ap (λ (x : ℕ). x % 2) (sym (one-mul (2 ^ suc q))) ∙ shifted-eve
 pub none-set : (r : ℕ) → bitAt r 0 ≡ 0
 none-set zero = refl
 none-set (suc r) = none-set r
-
-suc-same : {a b : ℕ} → (a ≡ b) ↔ (suc a ≡ suc b)
-suc-same = (λ e. ap suc e, λ e. omega arith)
 
 -- it has one digit
 pub set-pow : (r q : ℕ) → IsSet r (2 ^ q) ↔ (r ≡ q)

@@ -1,18 +1,17 @@
 -- The bits of some masters, and the least of them (02, E7): which are set, that there are 25, and that one master more makes of the
 -- answer what a walk would make of it. Assumes nothing.
-use mathlib.Core.Path.{_≡_, refl, sym, ap, subst, _∙_}
+use mathlib.Core.Path.{_≡_, refl, sym, ap, _∙_}
 use mathlib.Core.Bool.{Bool, true, false, cond}
 use mathlib.Core.Logic.{_↔_, _⊎_, inl, inr, ⊎-elim}
-use Prim.Native.Nat.{ℕ, zero, suc, _+_, _*_, _/_, _%_, _^_, _≤_, _<_, min}
+use Prim.Native.Nat.{ℕ, _+_, _*_, _/_, _%_, _^_, _<_, min}
 use native.Mathlib.Nat.{eq-zero-or-pos, min-eq-left, min-eq-right}
 use native.Mathlib.Omega.{arith}
 use borrow.Author.Tests.{ne-eqb, ltb-true, ltb-false}
-use lib.Bits.{bitOr, bitAnd, or-lt, or-zero-l, or-zero-r, or-self, or-comm, or-add-and, and-le-l}
+use lib.Bits.{bitOr, or-lt, or-self, or-comm, or-add-and, and-le-l}
 use lib.Count.{trailingZeros, trailing-of-zero}
 use lib.Dec.{eqb, ltb}
 use lib.Pow.{pow-lt, pow-pos}
 use Rattle.laws.proofs.Computed.{alike}
-use Rattle.address.specs.Half.{halfIndex, classOf, subOf}
 use Rattle.address.specs.Master.{rankOf, masterAt}
 use Rattle.address.specs.declared.Rank.{Rank}
 use Rattle.address.specs.declared.Rank.the-variants as rank
@@ -20,7 +19,7 @@ use Rattle.address.proofs.Ranks.{master-of-rank, master-at-byte, rank-below}
 use Rattle.ranks.specs.declared.Next.{Next}
 use Rattle.ranks.specs.declared.Next.the-variants.{Master, Nobody}
 use Rattle.ranks.specs.Before.{before, orBefore}
-use Rattle.ranks.specs.Bits.{bitOf, withRank, leastOf, bitAt, IsSet, ranks}
+use Rattle.ranks.specs.Bits.{bitOf, withRank, leastOf, IsSet, ranks}
 use Rattle.ranks.proofs.Digits.{or-assoc, set-or, set-pow, none-set, trailing-or, Lowest, lowest-set}
 
 -- ---- which bits are set

@@ -14,7 +14,7 @@ use Rattle.bus.specs.Bus.{attachedTo}
 use Rattle.bus.specs.Slot.{spoken}
 use Rattle.bus.specs.Waiting.{withBid, nextOf}
 use Rattle.bus.specs.declared.bus.Bus.{Bus}
-use Rattle.promises.specs.Calls.{Call, queue, slot, afterCall, afterCalls}
+use Rattle.promises.specs.Calls.{Call, queue, slot, afterCall}
 use Rattle.promises.specs.Contest.{sent, queued, by-all, between, OwnsInOneOf}
 use Rattle.promises.specs.Fit.{stationAt}
 use Rattle.promises.proofs.Computed.Runs.{run}
