@@ -27,7 +27,7 @@ use Rattle.bus.specs.declared.refusal.Refusal.{Refusal}
 use Rattle.bus.specs.declared.refusal.Verdict.{Verdict}
 use Rattle.bus.specs.declared.refusal.Verdict.the-variants.{Done, Refused}
 use Rattle.bus.specs.Attach.{newcomer, noSuchAddress, occupied, takesSeat, attaches}
-use Rattle.bus.specs.Bus.{seats, unseated, attachedTo, attachedTurns, turnAt, withTurn, refusedBy, done}
+use Rattle.bus.specs.Bus.{seats, unseated, attachedTo, attachedTurns, turnAt, withBits, withTurn, refusedBy, done}
 use Rattle.bus.specs.Conditions.{First, MasterAt, SlaveAt}
 use Rattle.bus.specs.Find.{firstOf}
 use Rattle.bus.specs.Queue.{noTarget, noCommand, holds, queuesTelegram, queuesFrom, queuesAt, queues}
@@ -101,11 +101,6 @@ pub record OneTurn (b : Bus) (i : ℕ) (t : Turn) (c : Bus) : Type 0 where
   pub ran : c .ran ≡ b .ran
   pub quiet : c .quiet ≡ b .quiet
   pub began : c .began ≡ b .began
-
--- the bus with that turn, and with these bits
-abbrev pub withBits : Bus → ℕ → Turn → ℕ → Bus
-withBits b i t bits =
-    record { turns = set (b .turns) i t; count = b .count; slot = b .slot; ran = b .ran; quiet = b .quiet; began = b .began; waiting = bits }
 
 one-turn : (b c : Bus) (i : ℕ) (t : Turn) (bits : ℕ) → c ≡ withBits b i t bits → OneTurn b i t c
 unfolding turnAt

@@ -35,9 +35,13 @@ attachedTurns b = take (attachedTo b) (b .turns)
 unfoldable pub turnAt : Bus → ℕ → Turn
 turnAt b i = getD (b .turns) i unseated
 
+-- the bus with that turn in a seat, and with these bits of who waits
+abbrev pub withBits : Bus → ℕ → Turn → ℕ → Bus
+withBits b i t bits =
+    record { turns = set (b .turns) i t; count = b .count; slot = b .slot; ran = b .ran; quiet = b .quiet; began = b .began; waiting = bits }
+
 unfoldable pub withTurn : Bus → ℕ → Turn → Bus
-withTurn b i t =
-    record { turns = set (b .turns) i t; count = b .count; slot = b .slot; ran = b .ran; quiet = b .quiet; began = b .began; waiting = b .waiting }
+withTurn b i t = withBits b i t (b .waiting)
 
 -- a refused call changes nothing
 unfoldable pub refusedBy : Bus → Refusal → Answer

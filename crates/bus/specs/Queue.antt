@@ -3,7 +3,7 @@ use mathlib.Core.Bool.{Bool, true, false, cond}
 use mathlib.Core.List.{List}
 use Prim.Native.Nat.{ℕ}
 use lib.Dec.{ltb}
-use lib.ListN.{length, set}
+use lib.ListN.{length}
 use Rattle.laws.specs.declared.Found.{Found}
 use Rattle.laws.specs.declared.Found.the-variants.{At, Missing}
 use Rattle.address.specs.Role.{roleOf}
@@ -25,7 +25,7 @@ use Rattle.bus.specs.declared.find.Query.the-variants.{Master}
 use Rattle.bus.specs.declared.refusal.Verdict.{Verdict}
 use Rattle.bus.specs.declared.refusal.Verdict.the-variants.{Done, Refused}
 use Rattle.bus.specs.declared.refusal.Refusal.the-variants.{NoMaster, NoTarget, NoCommand, TooMuchData, TooManySymbols, OutboxFull}
-use Rattle.bus.specs.Bus.{turnAt, refusedBy, done}
+use Rattle.bus.specs.Bus.{turnAt, withBits, refusedBy, done}
 use Rattle.bus.specs.Find.{firstOf}
 use Rattle.bus.specs.Waiting.{withBid}
 
@@ -49,16 +49,7 @@ noCommand pb sb = cond (unusable pb) true (unusable sb)
 
 -- the bus with that turn in the source's seat, and with the bit of its rank while it is admitted
 abbrev pub withSource : Bus → ℕ → Turn → Bus
-withSource b i t =
-    record {
-      turns = set (b .turns) i t;
-      count = b .count;
-      slot = b .slot;
-      ran = b .ran;
-      quiet = b .quiet;
-      began = b .began;
-      waiting = withBid (b .waiting) t;
-    }
+withSource b i t = withBits b i t (withBid (b .waiting) t)
 
 -- 5: 4 telegrams held, one in transfer included; else it is held behind them
 abbrev pub holdsAs : Accepted → Bus → ℕ → Turn → Answer
@@ -100,16 +91,4 @@ bitsAfter (Refused r) bits t = bits
 -- the seat as the call left it, put back
 abbrev pub putBack : Bus → ℕ → Held → Answer
 putBack b i h =
-    record {
-      bus =
-          record {
-            turns = set (b .turns) i (h .turn);
-            count = b .count;
-            slot = b .slot;
-            ran = b .ran;
-            quiet = b .quiet;
-            began = b .began;
-            waiting = bitsAfter (h .verdict) (b .waiting) (h .turn);
-          };
-      verdict = h .verdict;
-    }
+    record { bus = withBits b i (h .turn) (bitsAfter (h .verdict) (b .waiting) (h .turn)); verdict = h .verdict }

@@ -19,10 +19,9 @@ use Rattle.station.specs.declared.station.Turn.{Turn}
 use Rattle.station.proofs.Frame.{ready-lasting, hears-lasting}
 use Rattle.bus.specs.declared.bus.Bus.{Bus}
 use Rattle.bus.specs.declared.bus.Answer.{Answer}
-use Rattle.bus.specs.Bus.{poweredOn, attachedTo, turnAt}
+use Rattle.bus.specs.Bus.{poweredOn, attachedTo, turnAt, withBits}
 use Rattle.bus.specs.Attach.{newcomer}
 use Rattle.bus.specs.Slot.{saidBy, spoken, turned, slotHeard, slotRun}
-use Rattle.bus.proofs.DoneChanges.{withBits}
 use Rattle.promises.specs.Calls.{Call, attach, queue, reply, slot, heard, afterCall, afterCalls, ByteCalls, Reachable}
 use Rattle.promises.specs.Fit.{stationAt}
 use Rattle.promises.proofs.Shared.Arrays.{answer-full}

@@ -31,10 +31,10 @@ use Rattle.bus.specs.declared.bus.Answer.{Answer}
 use Rattle.bus.specs.declared.refusal.Verdict.{Verdict}
 use Rattle.bus.specs.declared.refusal.Verdict.the-variants.{Done, Refused}
 use Rattle.bus.specs.Attach.{newcomer}
-use Rattle.bus.specs.Bus.{poweredOn, attachedTo, turnAt}
+use Rattle.bus.specs.Bus.{poweredOn, attachedTo, turnAt, withBits}
 use Rattle.bus.specs.Conditions.{MasterAt, SlaveAt}
 use Rattle.bus.specs.Slot.{spoken, turned, slotHeard, slotRun}
-use Rattle.bus.proofs.DoneChanges.{withBits, Queued, Replied, queue-done, reply-done}
+use Rattle.bus.proofs.DoneChanges.{Queued, Replied, queue-done, reply-done}
 use Rattle.bus.proofs.Reflects.{first-holds}
 use Rattle.promises.specs.Accepted.{telegramOf}
 use Rattle.promises.specs.Calls.{Call, attach, queue, reply, slot, heard, afterCall, afterCalls, ByteCalls, Reachable}

@@ -19,14 +19,13 @@ use Rattle.station.specs.declared.outbox.Accepted.{Accepted}
 use Rattle.station.specs.declared.replies.Reply.{Reply}
 use Rattle.station.specs.declared.station.Station.{Station}
 use Rattle.station.specs.declared.station.Turn.{Turn}
-use Rattle.bus.specs.Bus.{turnAt, withTurn, refusedBy, done, unseated}
+use Rattle.bus.specs.Bus.{turnAt, withTurn, refusedBy, done, unseated, withBits}
 use Rattle.bus.specs.Find.{firstOf}
 use Rattle.bus.specs.Queue.{holds, queuesTelegram, queuesFrom, queuesAt, queues, noTarget, noCommand}
 use Rattle.bus.specs.Reply.{writes, repliesFrom, repliesAt, replies}
 use Rattle.bus.specs.declared.bus.Bus.{Bus}
 use Rattle.bus.specs.declared.bus.Answer.{Answer}
 use Rattle.bus.specs.declared.find.Query.the-variants.{Master, Slave}
-use Rattle.bus.proofs.DoneChanges.{withBits}
 use Rattle.promises.specs.Calls.{Call, attach, afterCall}
 use Rattle.promises.specs.Contest.{Between, attaching, queued, replied}
 use Rattle.promises.specs.Fit.{stationAt}

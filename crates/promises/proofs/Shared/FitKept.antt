@@ -27,11 +27,10 @@ use Rattle.station.proofs.Frame.{hears-lasting, ready-lasting}
 use Rattle.bus.specs.declared.bus.Bus.{Bus}
 use Rattle.bus.specs.declared.bus.Answer.{Answer}
 use Rattle.bus.specs.declared.find.Query.the-variants.{Holder}
-use Rattle.bus.specs.Bus.{seats, poweredOn, attachedTo, attachedTurns, turnAt}
+use Rattle.bus.specs.Bus.{seats, poweredOn, attachedTo, attachedTurns, turnAt, withBits}
 use Rattle.bus.specs.Find.{meets, firstOf, thereIs}
 use Rattle.bus.specs.Attach.{wrongFor, noSuchAddress, occupied, newcomer}
 use Rattle.bus.specs.Slot.{slotHeard}
-use Rattle.bus.proofs.DoneChanges.{withBits}
 use Rattle.laws.proofs.AtMost.{at-most-same}
 use Rattle.laws.proofs.FirstIs.{missing-each}
 use Rattle.promises.specs.Calls.{Call, ByteCall, Reachable}

@@ -34,11 +34,10 @@ use Rattle.bus.specs.declared.find.Query.the-variants.{Master}
 use Rattle.bus.specs.declared.refusal.Refusal.{Refusal}
 use Rattle.bus.specs.declared.refusal.Refusal.the-variants.{NoTarget, NoCommand, TooMuchData, TooManySymbols, OutboxFull, NoMaster}
 use Rattle.bus.specs.declared.refusal.Verdict.the-variants.{Done, Refused}
-use Rattle.bus.specs.Bus.{seats, unseated, poweredOn, attachedTo, attachedTurns, turnAt, refusedBy, done}
+use Rattle.bus.specs.Bus.{seats, unseated, poweredOn, attachedTo, attachedTurns, turnAt, refusedBy, done, withBits}
 use Rattle.bus.specs.Find.{meets, firstOf, isMasterAt}
 use Rattle.bus.specs.Queue.{unusable, noTarget, noCommand, holds, queuesTelegram, queuesFrom, queuesAt, queues}
 use Rattle.bus.proofs.Loops.{attached-fit}
-use Rattle.bus.proofs.DoneChanges.{withBits}
 use Rattle.laws.proofs.FirstIs.{Every, none, next}
 use Rattle.promises.specs.Calls.{Call, afterCall, afterCalls, ByteCall, ByteCalls, Reachable}
 use Rattle.promises.specs.Fit.{stationAt, Fit}

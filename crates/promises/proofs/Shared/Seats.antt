@@ -30,13 +30,12 @@ use Rattle.bus.specs.declared.find.Query.the-variants.{Master, Slave}
 use Rattle.bus.specs.declared.refusal.Refusal.{Refusal}
 use Rattle.bus.specs.declared.refusal.Verdict.the-variants.{Done, Refused}
 use Rattle.bus.specs.declared.refusal.Refusal.the-variants.{NoTarget, NoCommand, TooMuchData, TooManySymbols, OutboxFull, NoMaster, NoSlave, BookFull, Running, NoSuchAddress, InUse, NoRoom}
-use Rattle.bus.specs.Bus.{seats, unseated, poweredOn, attachedTo, attachedTurns, turnAt, withTurn, refusedBy, done}
+use Rattle.bus.specs.Bus.{seats, unseated, poweredOn, attachedTo, attachedTurns, turnAt, withTurn, refusedBy, done, withBits}
 use Rattle.bus.specs.Find.{firstOf}
 use Rattle.bus.specs.Attach.{noSuchAddress, occupied, newcomer, takesSeat, attaches}
 use Rattle.bus.specs.Queue.{noTarget, noCommand, holds, queuesTelegram, queuesFrom, queuesAt, queues}
 use Rattle.bus.specs.Reply.{withReplies, writes, repliesFrom, repliesAt, replies}
 use Rattle.bus.specs.Slot.{spoken, turned, mapFirst, slotHeard, slotRun}
-use Rattle.bus.proofs.DoneChanges.{withBits}
 use Rattle.bus.proofs.Loops.{attached-fit, length-mapFirst}
 use Rattle.laws.proofs.AtMost.{at-most-same}
 use Rattle.laws.proofs.FirstIs.{Every, none, next}

@@ -26,10 +26,9 @@ use Rattle.station.proofs.Frame.{Begins, as-it-stood, answers, ready-begins, re
 use Rattle.station.proofs.Possible.{ready-possible}
 use Rattle.bus.specs.declared.bus.Bus.{Bus}
 use Rattle.bus.specs.declared.bus.Answer.{Answer}
-use Rattle.bus.specs.Bus.{poweredOn, attachedTo, turnAt}
+use Rattle.bus.specs.Bus.{poweredOn, attachedTo, turnAt, withBits}
 use Rattle.bus.specs.Attach.{newcomer}
 use Rattle.bus.specs.Slot.{spoken, slotHeard, slotRun}
-use Rattle.bus.proofs.DoneChanges.{withBits}
 use Rattle.promises.specs.Calls.{Call, attach, queue, reply, slot, heard, afterCall, Reachable}
 use Rattle.promises.specs.Fit.{stationAt}
 use Rattle.promises.proofs.Shared.Arrays.{none-full, oldest-full}
