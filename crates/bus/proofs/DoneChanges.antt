@@ -10,7 +10,6 @@ use lib.ListN.{length, set}
 use lib.Seq.{getD-set-other}
 use Rattle.laws.specs.declared.Found.{Found}
 use Rattle.laws.specs.declared.Found.the-variants.{At, Missing}
-use Rattle.wire.specs.Form.{room, telegramForm}
 use Rattle.wire.specs.Load.{loadOf}
 use Rattle.wire.specs.declared.part.Telegram.{Telegram}
 use Rattle.station.specs.Outbox.{accepted}
@@ -30,7 +29,7 @@ use Rattle.bus.specs.Attach.{newcomer, noSuchAddress, occupied, takesSea
 use Rattle.bus.specs.Bus.{seats, unseated, attachedTo, attachedTurns, turnAt, withBits, withTurn, refusedBy, done}
 use Rattle.bus.specs.Conditions.{First, MasterAt, SlaveAt}
 use Rattle.bus.specs.Find.{firstOf}
-use Rattle.bus.specs.Queue.{noTarget, noCommand, holds, queuesTelegram, queuesFrom, queuesAt, queues}
+use Rattle.bus.specs.Queue.{noTarget, noCommand, holds, queuesFrom, queuesAt, queues}
 use Rattle.bus.specs.Waiting.{withBid}
 use Rattle.bus.specs.Reply.{withReplies, writes, repliesFrom, repliesAt, replies}
 use Rattle.bus.proofs.Reflects.{first-holds}
@@ -134,7 +133,7 @@ pub record Queued (b : Bus) (qq : ℕ) (t : Telegram) (c : Bus) : Type 0 where
 
 pub queue-done : (b : Bus) (qq zz pb sb : ℕ) (bytes : List ℕ) → queues b qq zz pb sb bytes .verdict ≡ Done
     → Queued b qq (record { qq = qq; zz = zz; pb = pb; sb = sb; load = loadOf bytes }) (queues b qq zz pb sb bytes .bus)
-unfolding queues queuesFrom queuesTelegram holds
+unfolding queues queuesFrom holds
 queue-done b qq zz pb sb bytes e = go (firstOf b (Master qq)) refl e
   where
     telegram : ℕ → Telegram
@@ -148,10 +147,9 @@ queue-done b qq zz pb sb bytes e = go (firstOf b (Master qq)) refl e
         let p = passed (noTarget (turnAt b i .station) zz) b _ _ e in
         let q = passed (noCommand pb sb) b _ _ (p .0) in
         let r = passed (ltb 16 (length bytes)) b _ _ (q .0) in
-        let s = passed (ltb room (length (telegramForm (telegram (turnAt b i .station .address))))) b _ _ (r .0) in
-        let t = taken-last (accepted (turnAt b i .station .outbox) (telegram (turnAt b i .station .address)) .taken) b _ _ (s .0) in
+        let t = taken-last (accepted (turnAt b i .station .outbox) (telegram (turnAt b i .station .address)) .taken) b _ _ (r .0) in
         let then : ℕ → Turn = λ a. holding (turnAt b i) (accepted (turnAt b i .station .outbox) (telegram a) .outbox) in
-        let same = subst (λ (a : ℕ). queuesFrom b i zz pb sb bytes .bus ≡ withBits b i (then a) (withBid (b .waiting) (then a))) own (p .1 ∙ q .1 ∙ r .1 ∙ s .1 ∙ t .1) in
+        let same = subst (λ (a : ℕ). queuesFrom b i zz pb sb bytes .bus ≡ withBits b i (then a) (withBid (b .waiting) (then a))) own (p .1 ∙ q .1 ∙ r .1 ∙ t .1) in
         record {
           place = i;
           attached = found-attached (Master qq) b i found;

@@ -7,7 +7,6 @@ use lib.Dec.{ltb}
 use lib.ListN.{length}
 use Rattle.laws.specs.declared.Found.{Found}
 use Rattle.laws.specs.declared.Found.the-variants.{At, Missing}
-use Rattle.wire.specs.Form.{room, telegramForm}
 use Rattle.wire.specs.Load.{loadOf}
 use Rattle.wire.specs.declared.part.Telegram.{Telegram}
 use Rattle.station.specs.Outbox.{accepted}
@@ -22,7 +21,7 @@ use Rattle.bus.specs.declared.refusal.Verdict.the-variants.{Done, Refuse
 use Rattle.bus.specs.Attach.{noSuchAddress, occupied, takesSeat, attaches}
 use Rattle.bus.specs.Bus.{seats, turnAt, refusedBy, done}
 use Rattle.bus.specs.Find.{firstOf}
-use Rattle.bus.specs.Queue.{noTarget, noCommand, holds, queuesTelegram, queuesFrom, queuesAt, queues}
+use Rattle.bus.specs.Queue.{noTarget, noCommand, holds, queuesFrom, queuesAt, queues}
 use Rattle.bus.specs.Reply.{writes, repliesFrom, repliesAt, replies}
 
 abbrev isRefused : Verdict → Bool
@@ -55,14 +54,13 @@ attach-keeps b a master =
     (branch b (ltb (b .count) seats) _ _ (if-done b _) (if-refused b _))))
 
 queue-keeps : (b : Bus) (i zz pb sb : ℕ) (bytes : List ℕ) → Kept b (queuesFrom b i zz pb sb bytes)
-unfolding queuesFrom queuesTelegram holds
+unfolding queuesFrom holds
 queue-keeps b i zz pb sb bytes =
     let t : Telegram = record { qq = turnAt b i .station .address; zz = zz; pb = pb; sb = sb; load = loadOf bytes } in
     branch b (noTarget (turnAt b i .station) zz) _ _ (if-refused b _)
     (branch b (noCommand pb sb) _ _ (if-refused b _)
     (branch b (ltb 16 (length bytes)) _ _ (if-refused b _)
-    (branch b (ltb room (length (telegramForm t))) _ _ (if-refused b _)
-    (branch b (accepted (turnAt b i .station .outbox) t .taken) _ _ (if-done b _) (if-refused b _)))))
+    (branch b (accepted (turnAt b i .station .outbox) t .taken) _ _ (if-done b _) (if-refused b _))))
 
 queue-keeps-at : (f : Found) (b : Bus) (zz pb sb : ℕ) (bytes : List ℕ) → Kept b (queuesAt f b zz pb sb bytes)
 queue-keeps-at (At i) b zz pb sb bytes = queue-keeps b i zz pb sb bytes

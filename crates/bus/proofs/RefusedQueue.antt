@@ -1,5 +1,4 @@
--- Refusals 1, 2, 3, 4, 6 and 5: queue gives each exactly when its line of 01's table holds and no earlier one does. 6 is never
--- given. Assumes nothing.
+-- Refusals 1, 2, 3, 4 and 5: queue gives each exactly when its line of 01's table holds and no earlier one does. Assumes nothing.
 use mathlib.Core.Path.{_≡_, refl, sym, ap, _∙_}
 use mathlib.Core.Bool.{Bool, true, false, cond, _||_, true≢false, false≢true}
 use mathlib.Core.List.{List, [], _∷_}
@@ -17,9 +16,6 @@ use Rattle.address.specs.Half.{halfIndex}
 use Rattle.address.specs.Role.{roleOf}
 use Rattle.address.specs.Master.{isMaster, slaveOf}
 use Rattle.address.specs.declared.Role.the-variants as role
-use Rattle.wire.proofs.Fitting.{load-sixteen}
-use Rattle.wire.proofs.Symbols.{telegram-fits}
-use Rattle.wire.specs.Form.{room, telegramForm}
 use Rattle.wire.specs.Load.{loadOf}
 use Rattle.wire.specs.declared.part.Telegram.{Telegram}
 use Rattle.station.specs.Outbox.{queueDepth, heldIn, accepted}
@@ -30,9 +26,9 @@ use Rattle.bus.specs.declared.bus.Bus.{Bus}
 use Rattle.bus.specs.declared.find.Query.{Query}
 use Rattle.bus.specs.declared.find.Query.the-variants.{Master}
 use Rattle.bus.specs.Bus.{unseated, attachedTo, attachedTurns, turnAt, refusedBy, done}
-use Rattle.bus.specs.Conditions.{numberGiven, Any, here, there, OneOf, First, Unless, MasterAt, NoSource, Forbidden, WrongTarget, WrongCommand, MuchData, LongPart, QueueFull}
+use Rattle.bus.specs.Conditions.{numberGiven, Any, here, there, OneOf, First, Unless, MasterAt, NoSource, Forbidden, WrongTarget, WrongCommand, MuchData, QueueFull}
 use Rattle.bus.specs.Find.{isMasterAt, meets, firstOf}
-use Rattle.bus.specs.Queue.{isNever, unusable, noTarget, noCommand, holds, queuesTelegram, queuesFrom, queuesAt, queues}
+use Rattle.bus.specs.Queue.{isNever, unusable, noTarget, noCommand, holds, queuesFrom, queuesAt, queues}
 use Rattle.laws.proofs.FirstIs.{found-at}
 use Rattle.bus.proofs.Reflects.{Reflects, refuses, equal, below, or-reflects, and-reflects, itself, this-line, earlier-line, last-line, no-line, either-number, not-number, number-cond, search-reflects, found-first, first-one, first-holds}
 
@@ -114,20 +110,17 @@ module _ (b : Bus) (qq zz pb sb : ℕ) (bytes : List ℕ) where
   abbrev asked : ℕ → Telegram
   asked i = record { qq = turnAt b i .station .address; zz = zz; pb = pb; sb = sb; load = loadOf bytes }
 
-  -- the lines behind 1, for a source at place i
-  tooLong : ℕ → Bool
-  tooLong i = ltb room (length (telegramForm (asked i)))
-
   roomy : ℕ → Bool
   roomy i = accepted (turnAt b i .station .outbox) (asked i) .taken
 
+  -- the lines behind 1, for a source at place i
   abbrev lines : ℕ → ℕ
   lines i =
       cond (noTarget (turnAt b i .station) zz) 2
-      (cond (noCommand pb sb) 3 (cond (ltb 16 (length bytes)) 4 (cond (tooLong i) 6 (cond (roomy i) 0 5))))
+      (cond (noCommand pb sb) 3 (cond (ltb 16 (length bytes)) 4 (cond (roomy i) 0 5)))
 
   queue-number : (i : ℕ) → numberGiven (queuesFrom b i zz pb sb bytes) ≡ lines i
-  unfolding queuesFrom queuesTelegram holds refusedBy done tooLong roomy
+  unfolding queuesFrom holds refusedBy done roomy
   queue-number i = simp number-cond
 
   abbrev given : ℕ
@@ -145,7 +138,7 @@ module _ (b : Bus) (qq zz pb sb : ℕ) (bytes : List ℕ) where
             (not-number (noTarget (turnAt b i .station) zz) 2 _ 1 (omega arith)
             (not-number (noCommand pb sb) 3 _ 1 (omega arith)
             (not-number (ltb 16 (length bytes)) 4 _ 1 (omega arith)
-            (not-number (tooLong i) 6 _ 1 (omega arith) (not-number (roomy i) 0 5 1 (omega arith) (omega arith)))))
+            (not-number (roomy i) 0 5 1 (omega arith) (omega arith))))
             (sym (queue-number i) ∙ n)),
         λ n. absurd (n (r .0 (ap isFound e))),
       )
@@ -171,12 +164,12 @@ module _ (b : Bus) (qq zz pb sb : ℕ) (bytes : List ℕ) where
       (λ i s. this-line (noTarget (turnAt b i .station) zz) (target-reflects qq zz (turnAt b i) (first-holds s)) 2 _
       (not-number (noCommand pb sb) 3 _ 2 (omega arith)
       (not-number (ltb 16 (length bytes)) 4 _ 2 (omega arith)
-      (not-number (tooLong i) 6 _ 2 (omega arith) (not-number (roomy i) 0 5 2 (omega arith) (omega arith))))))
+      (not-number (roomy i) 0 5 2 (omega arith) (omega arith)))))
 
   -- behind 2
   after-target : {D : Type 0} (n : ℕ) → 1 ≢ n → 2 ≢ n
       → ((i : ℕ) → First (MasterAt qq) (turnAt b i) (attachedTurns b)
-      → (cond (noCommand pb sb) 3 (cond (ltb 16 (length bytes)) 4 (cond (tooLong i) 6 (cond (roomy i) 0 5))) ≡ n) ↔ D)
+      → (cond (noCommand pb sb) 3 (cond (ltb 16 (length bytes)) 4 (cond (roomy i) 0 5)) ≡ n) ↔ D)
       → (given ≡ n) ↔ Unless (NoSource b qq) (Unless (WrongTarget qq zz) D)
   after-target n h k on = after-source n h
       (λ i s. earlier-line (noTarget (turnAt b i .station) zz) (target-reflects qq zz (turnAt b i) (first-holds s)) 2 n _ k (on i s))
@@ -186,7 +179,7 @@ module _ (b : Bus) (qq zz pb sb : ℕ) (bytes : List ℕ) where
   refused-3 = after-target 3 (omega arith) (omega arith)
       (λ i s. this-line (noCommand pb sb) (command-reflects pb sb) 3 _
       (not-number (ltb 16 (length bytes)) 4 _ 3 (omega arith)
-      (not-number (tooLong i) 6 _ 3 (omega arith) (not-number (roomy i) 0 5 3 (omega arith) (omega arith)))))
+      (not-number (roomy i) 0 5 3 (omega arith) (omega arith))))
 
   -- 4: more than 16 data bytes
   pub refused-4 : (given ≡ 4)
@@ -194,28 +187,7 @@ module _ (b : Bus) (qq zz pb sb : ℕ) (bytes : List ℕ) where
   refused-4 = after-target 4 (omega arith) (omega arith)
       (λ i s. earlier-line (noCommand pb sb) (command-reflects pb sb) 3 4 _ (omega arith)
       (this-line (ltb 16 (length bytes)) (below 16 (length bytes)) 4 _
-      (not-number (tooLong i) 6 _ 4 (omega arith) (not-number (roomy i) 0 5 4 (omega arith) (omega arith)))))
-
-  long-reflects : (i : ℕ) → MasterAt qq (turnAt b i) → Reflects (tooLong i) (LongPart qq zz pb sb bytes)
-  unfolding tooLong
-  long-reflects i m = rw (m .1) (below room _)
-
-  -- 6: the expanded part exceeds 44 symbols
-  pub refused-6 : (given ≡ 6)
-      ↔ Unless (NoSource b qq)
-      (Unless (WrongTarget qq zz) (Unless (WrongCommand pb sb) (Unless (MuchData bytes) (LongPart qq zz pb sb bytes))))
-  refused-6 = after-target 6 (omega arith) (omega arith)
-      (λ i s. earlier-line (noCommand pb sb) (command-reflects pb sb) 3 6 _ (omega arith)
-      (earlier-line (ltb 16 (length bytes)) (below 16 (length bytes)) 4 6 _ (omega arith)
-      (this-line (tooLong i) (long-reflects i (first-holds s)) 6 _ (not-number (roomy i) 0 5 6 (omega arith) (omega arith)))))
-
-  no-long-part : LongPart qq zz pb sb bytes → ⊥
-  no-long-part h =
-      absurd (omega (arith, h, telegram-fits (record { qq = qq; zz = zz; pb = pb; sb = sb; load = loadOf bytes }) (load-sixteen bytes)))
-
-  -- no part is so long: its expanded form has at most 39 symbols
-  pub never-6 : given ≢ 6
-  never-6 e = no-long-part (refused-6 .0 e .1 .1 .1 .1)
+      (not-number (roomy i) 0 5 4 (omega arith) (omega arith))))
 
   full-reflects : (i : ℕ) → First (MasterAt qq) (turnAt b i) (attachedTurns b) → (roomy i ≡ false) ↔ QueueFull b qq
   unfolding roomy
@@ -228,34 +200,31 @@ module _ (b : Bus) (qq zz pb sb : ℕ) (bytes : List ℕ) where
   pub refused-5 : (given ≡ 5)
       ↔ Unless (NoSource b qq)
       (Unless (WrongTarget qq zz)
-      (Unless (WrongCommand pb sb) (Unless (MuchData bytes) (Unless (LongPart qq zz pb sb bytes) (QueueFull b qq)))))
+      (Unless (WrongCommand pb sb) (Unless (MuchData bytes) (QueueFull b qq))))
   refused-5 = after-target 5 (omega arith) (omega arith)
       (λ i s. earlier-line (noCommand pb sb) (command-reflects pb sb) 3 5 _ (omega arith)
       (earlier-line (ltb 16 (length bytes)) (below 16 (length bytes)) 4 5 _ (omega arith)
-      (earlier-line (tooLong i) (long-reflects i (first-holds s)) 6 5 _ (omega arith)
-      (last-line (roomy i) (full-reflects i s) 5 (omega arith)))))
+      (last-line (roomy i) (full-reflects i s) 5 (omega arith))))
 
   -- done, which is number 0, exactly when none of these lines holds
   pub queue-done-exactly-when : (given ≡ 0)
       ↔ Unless (NoSource b qq)
       (Unless (WrongTarget qq zz)
-      (Unless (WrongCommand pb sb) (Unless (MuchData bytes) (Unless (LongPart qq zz pb sb bytes) (QueueFull b qq → ⊥)))))
+      (Unless (WrongCommand pb sb) (Unless (MuchData bytes) (QueueFull b qq → ⊥))))
   queue-done-exactly-when = after-target 0 (omega arith) (omega arith)
       (λ i s. earlier-line (noCommand pb sb) (command-reflects pb sb) 3 0 _ (omega arith)
       (earlier-line (ltb 16 (length bytes)) (below 16 (length bytes)) 4 0 _ (omega arith)
-      (earlier-line (tooLong i) (long-reflects i (first-holds s)) 6 0 _ (omega arith)
-      (no-line (roomy i) (full-reflects i s) 5 (omega arith)))))
+      (no-line (roomy i) (full-reflects i s) 5 (omega arith))))
 
   abbrev Own : ℕ → Type 0
-  Own n = OneOf (0 ∷ 1 ∷ 2 ∷ 3 ∷ 4 ∷ 6 ∷ 5 ∷ []) n
+  Own n = OneOf (0 ∷ 1 ∷ 2 ∷ 3 ∷ 4 ∷ 5 ∷ []) n
 
   own-lines : (i : ℕ) → Own (lines i)
   own-lines i =
       either-number Own (noTarget (turnAt b i .station) zz) 2 _ (there (there (here refl)))
       (either-number Own (noCommand pb sb) 3 _ (there (there (there (here refl))))
       (either-number Own (ltb 16 (length bytes)) 4 _ (there (there (there (there (here refl)))))
-      (either-number Own (tooLong i) 6 _ (there (there (there (there (there (here refl))))))
-      (either-number Own (roomy i) 0 5 (here refl) (there (there (there (there (there (there (here refl)))))))))))
+      (either-number Own (roomy i) 0 5 (here refl) (there (there (there (there (there (here refl)))))))))
 
   -- and refused with no other number
   pub queue-own-numbers : Own given

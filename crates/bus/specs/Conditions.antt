@@ -7,8 +7,7 @@ use mathlib.Core.Logic.{_⊎_}
 use Prim.Native.Nat.{ℕ, _≤_, _<_}
 use lib.ListN.{length, take}
 use Rattle.address.specs.Master.{isMaster, slaveOf}
-use Rattle.wire.specs.Form.{room, telegramForm}
-use Rattle.wire.specs.Load.{mostData, loadOf}
+use Rattle.wire.specs.Load.{mostData}
 use Rattle.station.specs.Outbox.{queueDepth, heldIn}
 use Rattle.station.specs.Replies.{replyEntries, countIn}
 use Rattle.station.specs.declared.replies.Reply.{Reply}
@@ -98,11 +97,6 @@ WrongCommand pb sb = Forbidden pb ⊎ Forbidden sb
 -- 4: more than 16 data bytes
 abbrev pub MuchData : List ℕ → Type 0
 MuchData bytes = mostData < length bytes
-
--- 6: the expanded part exceeds 44 symbols
-abbrev pub LongPart : ℕ → ℕ → ℕ → ℕ → List ℕ → Type 0
-LongPart qq zz pb sb bytes =
-    room < length (telegramForm (record { qq = qq; zz = zz; pb = pb; sb = sb; load = loadOf bytes }))
 
 -- 5: 4 telegrams held, one in transfer included. (The source is the first attached master with the address: there is one only,
 -- because of 9.)

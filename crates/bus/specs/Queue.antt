@@ -1,4 +1,4 @@
--- A telegram is queued: refusals 1, 2, 3, 4, 6, 5 in that order (01, the table). Assumes nothing.
+-- A telegram is queued: refusals 1, 2, 3, 4, 5 in that order (01, the table). Assumes nothing.
 use mathlib.Core.Bool.{Bool, true, false, cond}
 use mathlib.Core.List.{List}
 use Prim.Native.Nat.{ℕ}
@@ -9,7 +9,6 @@ use Rattle.laws.specs.declared.Found.the-variants.{At, Missing}
 use Rattle.address.specs.Role.{roleOf}
 use Rattle.address.specs.declared.Role as R
 use Rattle.address.specs.declared.Role.the-variants as role
-use Rattle.wire.specs.Form.{room, telegramForm}
 use Rattle.wire.specs.Load.{mostData, loadOf}
 use Rattle.wire.specs.declared.part.Telegram.{Telegram}
 use Rattle.station.specs.Outbox.{accepted}
@@ -24,7 +23,7 @@ use Rattle.bus.specs.declared.bus.Held.{Held}
 use Rattle.bus.specs.declared.find.Query.the-variants.{Master}
 use Rattle.bus.specs.declared.refusal.Verdict.{Verdict}
 use Rattle.bus.specs.declared.refusal.Verdict.the-variants.{Done, Refused}
-use Rattle.bus.specs.declared.refusal.Refusal.the-variants.{NoMaster, NoTarget, NoCommand, TooMuchData, TooManySymbols, OutboxFull}
+use Rattle.bus.specs.declared.refusal.Refusal.the-variants.{NoMaster, NoTarget, NoCommand, TooMuchData, OutboxFull}
 use Rattle.bus.specs.Bus.{turnAt, withBits, refusedBy, done}
 use Rattle.bus.specs.Find.{firstOf}
 use Rattle.bus.specs.Waiting.{withBid}
@@ -61,17 +60,13 @@ holdsAs a b i t =
 unfoldable pub holds : Bus → ℕ → Telegram → Answer
 holds b i t = holdsAs (accepted (turnAt b i .station .outbox) t) b i (turnAt b i)
 
--- 6: the expanded part exceeds 44 symbols
-unfoldable pub queuesTelegram : Bus → ℕ → Telegram → Answer
-queuesTelegram b i t = cond (ltb room (length (telegramForm t))) (refusedBy b TooManySymbols) (holds b i t)
-
--- 4: more than 16 data bytes
+-- 2, 3, then 4: more than 16 data bytes, then 5
 unfoldable pub queuesFrom : Bus → ℕ → ℕ → ℕ → ℕ → List ℕ → Answer
 queuesFrom b i zz pb sb bytes =
     cond (noTarget (turnAt b i .station) zz) (refusedBy b NoTarget)
     (cond (noCommand pb sb) (refusedBy b NoCommand)
     (cond (ltb mostData (length bytes)) (refusedBy b TooMuchData)
-    (queuesTelegram b i (record { qq = turnAt b i .station .address; zz = zz; pb = pb; sb = sb; load = loadOf bytes }))))
+    (holds b i (record { qq = turnAt b i .station .address; zz = zz; pb = pb; sb = sb; load = loadOf bytes }))))
 
 -- 1: source is no attached master
 abbrev pub queuesAt : Found → Bus → ℕ → ℕ → ℕ → List ℕ → Answer

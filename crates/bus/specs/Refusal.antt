@@ -1,7 +1,7 @@
--- 01's number of each refusal ("When a call is turned down"). Assumes nothing.
+-- 01's number of each refusal ("When a call is turned down"); 6 is not given any more (02, E8). Assumes nothing.
 use Prim.Native.Nat.{ℕ}
 use Rattle.bus.specs.declared.refusal.Refusal.{Refusal}
-use Rattle.bus.specs.declared.refusal.Refusal.the-variants.{Running, NoSuchAddress, InUse, NoRoom, NoMaster, NoTarget, NoSlave, NoCommand, TooMuchData, TooManySymbols, OutboxFull, BookFull}
+use Rattle.bus.specs.declared.refusal.Refusal.the-variants.{Running, NoSuchAddress, InUse, NoRoom, NoMaster, NoTarget, NoSlave, NoCommand, TooMuchData, OutboxFull, BookFull}
 
 abbrev pub refusalNumber : Refusal → ℕ
 refusalNumber Running = 7
@@ -13,6 +13,5 @@ refusalNumber NoTarget = 2
 refusalNumber NoSlave = 11
 refusalNumber NoCommand = 3
 refusalNumber TooMuchData = 4
-refusalNumber TooManySymbols = 6
 refusalNumber OutboxFull = 5
 refusalNumber BookFull = 12

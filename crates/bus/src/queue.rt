@@ -1,9 +1,9 @@
-// A telegram is queued at its source: 1, 2, 3, 4, 6, 5 in that order.
+// A telegram is queued at its source: 1, 2, 3, 4, 5 in that order.
 ghost use mathlib.Core.Path.{_≡_};
 ghost use Prim.Native.Nat.{ℕ};
 ghost use Rattle.bus.specs.declared.bus.Bus.{Bus};
 ghost use Rattle.bus.specs.Bus.{turnAt};
-ghost use Rattle.bus.specs.Queue.{unusable, noTarget, noCommand, queuesTelegram, queuesFrom, queues, bitsAfter, putBack};
+ghost use Rattle.bus.specs.Queue.{unusable, noTarget, noCommand, holds, queuesFrom, queues, bitsAfter, putBack};
 use crate::bus::Answer;
 use crate::bus::Bus;
 use crate::bus::Held;
@@ -15,7 +15,6 @@ use address::Role;
 use laws::Found;
 use station::station::Station;
 use station::station::Turn;
-use wire::form::Wire;
 use wire::part::Load;
 use wire::part::Telegram;
 
@@ -83,7 +82,7 @@ fn bits_after(verdict: Verdict, bits: u32, t: Turn) -> u32
     }
 }
 
-// 2, 3, 4, then 6 and 5: the same in whichever seat of whichever bus the turn stands.
+// 2, 3, 4, then 5: the same in whichever seat of whichever bus the turn stands.
 fn held(t: Turn, zz: u8, pb: u8, sb: u8, bytes: &[u8]) -> Held
     ensures { λ r.
         ⌜ ((b : Bus) (i : ℕ) → turnAt b i ≡ t
@@ -109,16 +108,12 @@ fn held(t: Turn, zz: u8, pb: u8, sb: u8, bytes: &[u8]) -> Held
     accepts(t, telegram)
 }
 
-// 6, then 5.
+// 5: 4 telegrams held, one in transfer included; else it is held behind them.
 fn accepts(t: Turn, telegram: Telegram) -> Held
     ensures { λ r.
         ⌜ ((b : Bus) (i : ℕ) → turnAt b i ≡ t
-        → queuesTelegram b i telegram ≡ putBack b i r) ⌝ }
+        → holds b i telegram ≡ putBack b i r) ⌝ }
 {
-    let w = wire::form::telegram_form(telegram);
-    if Wire::ROOM < w.len {
-        return Held::refused(t, Refusal::TooManySymbols);
-    }
     let mut source = t.station;
     let told = t.told;
     let outbox = source.outbox;

@@ -1,4 +1,4 @@
-// Why a call is turned down. The numbers are those of 01's table.
+// Why a call is turned down. The numbers are those of 01's table; 6 is not given any more (02, E8).
 pub enum Refusal {
     // 7
     Running,
@@ -18,8 +18,6 @@ pub enum Refusal {
     NoCommand,
     // 4
     TooMuchData,
-    // 6
-    TooManySymbols,
     // 5
     OutboxFull,
     // 12

@@ -6,7 +6,7 @@ use native.Mathlib.Omega.{arith}
 use Rattle.laws.proofs.FirstIs.{next, every-map}
 use Rattle.bus.specs.Refusal.{refusalNumber}
 use Rattle.bus.specs.declared.refusal.Refusal.{Refusal}
-use Rattle.bus.specs.declared.refusal.Refusal.the-variants.{Running, NoSuchAddress, InUse, NoRoom, NoMaster, NoTarget, NoSlave, NoCommand, TooMuchData, TooManySymbols, OutboxFull, BookFull}
+use Rattle.bus.specs.declared.refusal.Refusal.the-variants.{Running, NoSuchAddress, InUse, NoRoom, NoMaster, NoTarget, NoSlave, NoCommand, TooMuchData, OutboxFull, BookFull}
 use Rattle.bus.specs.declared.refusal.Verdict.the-variants.{Refused}
 use Rattle.walk.specs.declared.form.Form.the-variants.{BadField, TooLong}
 use Rattle.promises.proofs.Shared.Arrays.{every-append}
@@ -48,7 +48,6 @@ refusal-small NoTarget = omega arith
 refusal-small NoSlave = omega arith
 refusal-small NoCommand = omega arith
 refusal-small TooMuchData = omega arith
-refusal-small TooManySymbols = omega arith
 refusal-small OutboxFull = omega arith
 refusal-small BookFull = omega arith
 

@@ -148,7 +148,6 @@ fn refusal_number(r: Refusal) -> u32
         Refusal::NoSlave => 11,
         Refusal::NoCommand => 3,
         Refusal::TooMuchData => 4,
-        Refusal::TooManySymbols => 6,
         Refusal::OutboxFull => 5,
         Refusal::BookFull => 12,
     }

@@ -38,9 +38,9 @@ telegramForm t = form (headOf t) (bytesOf (t .load))
 unfoldable pub answerForm : Load → List ℕ
 answerForm l = form [] (bytesOf l)
 
--- the symbols for which the wire buffer has room
+-- the symbols for which the wire buffer has room: those of the longest master part (02, E8)
 abbrev pub room : ℕ
-room = 44
+room = 39
 
 -- a buffer that holds these symbols, and zeros behind them
 unfoldable pub holding : List ℕ → Wire

@@ -17,7 +17,7 @@ pub struct Wire {
 }
 
 impl Wire {
-    pub const ROOM: usize = 44;
+    pub const ROOM: usize = 39;
 }
 
 // One symbol more.

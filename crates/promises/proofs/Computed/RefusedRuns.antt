@@ -1,5 +1,5 @@
 -- For each number of 01's list a call that is turned down with it, and beside each limit the call that is not (01, "When a call is
--- turned down"). 6 has none: `never-6`. Assumes nothing.
+-- turned down"; 6 is not in it any more: AsBefore). Assumes nothing.
 use mathlib.Core.Path.{_≡_, refl}
 use mathlib.Core.Bool.{true, false}
 use mathlib.Core.List.{List, [], _∷_, _++_, map}

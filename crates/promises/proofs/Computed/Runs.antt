@@ -27,7 +27,7 @@ use Rattle.bus.specs.declared.bus.Bus.{Bus}
 use Rattle.bus.specs.Attach.{noSuchAddress, occupied, newcomer, takesSeat, attaches}
 use Rattle.bus.specs.Bus.{poweredOn, attachedTo, turnAt, withTurn, refusedBy, done}
 use Rattle.bus.specs.Find.{slaveAddress, isMasterAt, firstOf, thereIs}
-use Rattle.bus.specs.Queue.{unusable, noTarget, noCommand, holds, queuesTelegram, queuesFrom, queues}
+use Rattle.bus.specs.Queue.{unusable, noTarget, noCommand, holds, queuesFrom, queues}
 use Rattle.bus.specs.Reply.{writes, repliesFrom, replies}
 use Rattle.bus.specs.Slot.{generatorSays, spoken, slotHeard, slotRun}
 use Rattle.promises.specs.Calls.{Call, slot, heard, afterCalls}
@@ -54,6 +54,6 @@ unfolding firstFrom timesX timesXⁿ crcStep crcFrom crcOf halfIndex classOf sub
     whole addressed readOn reads noEntries isFor countIn entryOf entryAt withEntry added written answerFor left released
     owned withdrawn hearBid sentWhole sent hearOwn taken hearReply fresh answering ready bids sayBid due
     acknowledgement says goes noSuchAddress occupied newcomer takesSeat attaches poweredOn attachedTo turnAt withTurn refusedBy done
-    slaveAddress isMasterAt firstOf thereIs unusable noTarget noCommand holds queuesTelegram queuesFrom queues writes repliesFrom
+    slaveAddress isMasterAt firstOf thereIs unusable noTarget noCommand holds queuesFrom queues writes repliesFrom
     replies generatorSays spoken slotHeard slotRun afterCalls sinceCalls
 run cs = afterCalls poweredOn cs

@@ -9,8 +9,6 @@ use lib.Dec.{ltb}
 use lib.ListN.{length, getD, set, length-set}
 use Rattle.laws.specs.declared.Found.{Found}
 use Rattle.laws.specs.declared.Found.the-variants.{At, Missing}
-use Rattle.wire.specs.Form.{room, telegramForm}
-use Rattle.wire.specs.Load.{loadOf}
 use Rattle.wire.specs.declared.part.Telegram.{Telegram}
 use Rattle.station.specs.Outbox.{queueDepth, heldIn, accepted}
 use Rattle.station.specs.Replies.{written}
@@ -21,7 +19,7 @@ use Rattle.station.specs.declared.station.Station.{Station}
 use Rattle.station.specs.declared.station.Turn.{Turn}
 use Rattle.bus.specs.Bus.{turnAt, withTurn, refusedBy, done, unseated, withBits}
 use Rattle.bus.specs.Find.{firstOf}
-use Rattle.bus.specs.Queue.{holds, queuesTelegram, queuesFrom, queuesAt, queues, noTarget, noCommand}
+use Rattle.bus.specs.Queue.{holds, queuesFrom, queuesAt, queues, noTarget, noCommand}
 use Rattle.bus.specs.Reply.{writes, repliesFrom, repliesAt, replies}
 use Rattle.bus.specs.declared.bus.Bus.{Bus}
 use Rattle.bus.specs.declared.bus.Answer.{Answer}
@@ -115,13 +113,12 @@ holds-keeps b i t =
     (same-bus b)
 
 queue-keeps : (b : Bus) (f : Found) (zz pb sb : ℕ) (bytes : List ℕ) → KeepsAll b (queuesAt f b zz pb sb bytes .bus)
-unfolding queuesFrom queuesTelegram refusedBy
+unfolding queuesFrom refusedBy
 queue-keeps b (At i) zz pb sb bytes =
     either b (noTarget (turnAt b i .station) zz) _ _ (same-bus b)
     (either b (noCommand pb sb) _ _ (same-bus b)
     (either b (ltb 16 (length bytes)) _ _ (same-bus b)
-    (either b (ltb room (length (telegramForm (record { qq = turnAt b i .station .address; zz = zz; pb = pb; sb = sb; load = loadOf bytes })))) _ _ (same-bus b)
-    (holds-keeps b i _))))
+    (holds-keeps b i _)))
 queue-keeps b Missing zz pb sb bytes = same-bus b
 
 writes-keeps : (b : Bus) (i : ℕ) (r : Reply) → KeepsAll b (writes b i r .bus)

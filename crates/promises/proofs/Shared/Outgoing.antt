@@ -15,7 +15,6 @@ use Rattle.laws.specs.declared.Found.the-variants.{At, Missing}
 use Rattle.address.specs.Half.{halfIndex}
 use Rattle.address.specs.Role.{roleOf}
 use Rattle.address.specs.Master.{isMaster, slaveOf}
-use Rattle.wire.specs.Form.{room, telegramForm}
 use Rattle.wire.specs.Load.{loadOf}
 use Rattle.wire.specs.Reading.{Sixteen, Usable, Message}
 use Rattle.wire.specs.declared.part.Telegram.{Telegram}
@@ -32,11 +31,11 @@ use Rattle.bus.specs.declared.bus.Bus.{Bus}
 use Rattle.bus.specs.declared.bus.Answer.{Answer}
 use Rattle.bus.specs.declared.find.Query.the-variants.{Master}
 use Rattle.bus.specs.declared.refusal.Refusal.{Refusal}
-use Rattle.bus.specs.declared.refusal.Refusal.the-variants.{NoTarget, NoCommand, TooMuchData, TooManySymbols, OutboxFull, NoMaster}
+use Rattle.bus.specs.declared.refusal.Refusal.the-variants.{NoTarget, NoCommand, TooMuchData, OutboxFull, NoMaster}
 use Rattle.bus.specs.declared.refusal.Verdict.the-variants.{Done, Refused}
 use Rattle.bus.specs.Bus.{seats, unseated, poweredOn, attachedTo, attachedTurns, turnAt, refusedBy, done, withBits}
 use Rattle.bus.specs.Find.{meets, firstOf, isMasterAt}
-use Rattle.bus.specs.Queue.{unusable, noTarget, noCommand, holds, queuesTelegram, queuesFrom, queuesAt, queues}
+use Rattle.bus.specs.Queue.{unusable, noTarget, noCommand, holds, queuesFrom, queuesAt, queues}
 use Rattle.bus.proofs.Loops.{attached-fit}
 use Rattle.laws.proofs.FirstIs.{Every, none, next}
 use Rattle.promises.specs.Calls.{Call, afterCall, afterCalls, ByteCall, ByteCalls, Reachable}
@@ -171,7 +170,7 @@ master-found b qq i w e =
     of-test false e = e
 
 pub queue-did : (b : Bus) (qq zz pb sb : ℕ) (bytes : List ℕ) → Fit b → QueueDid b (queues b qq zz pb sb bytes)
-unfolding queues queuesFrom queuesTelegram holds done noTarget noCommand isOwn
+unfolding queues queuesFrom holds done noTarget noCommand isOwn
 queue-did b qq zz pb sb bytes w = at (firstOf b (Master qq)) refl
   where
     telegram : ℕ → Telegram
@@ -183,7 +182,6 @@ queue-did b qq zz pb sb bytes w = at (firstOf b (Master qq)) refl
         tested b (noTarget (turnAt b i .station) zz) (λ _. away b NoTarget) λ n.
         tested b (noCommand pb sb) (λ _. away b NoCommand) λ c.
         tested b (ltb 16 (length bytes)) (λ _. away b TooMuchData) λ _.
-        tested b (ltb room (length (telegramForm (telegram i)))) (λ _. away b TooManySymbols) λ _.
         tested b (accepted (turnAt b i .station .outbox) (telegram i) .taken)
         (λ _.
         let n = either-false (unusable zz) (isOwn (turnAt b i .station) zz) n in

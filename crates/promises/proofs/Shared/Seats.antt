@@ -13,7 +13,6 @@ use lib.ListN.{length, getD, set, length-set}
 use lib.Seq.{getD-set-same, getD-set-other, getD-take, length-take-le}
 use Rattle.laws.specs.declared.Found.{Found}
 use Rattle.laws.specs.declared.Found.the-variants.{At, Missing}
-use Rattle.wire.specs.Form.{room, telegramForm}
 use Rattle.wire.specs.Load.{loadOf}
 use Rattle.wire.specs.Reading.{Sixteen}
 use Rattle.wire.specs.declared.part.Telegram.{Telegram}
@@ -29,11 +28,11 @@ use Rattle.bus.specs.declared.bus.Answer.{Answer}
 use Rattle.bus.specs.declared.find.Query.the-variants.{Master, Slave}
 use Rattle.bus.specs.declared.refusal.Refusal.{Refusal}
 use Rattle.bus.specs.declared.refusal.Verdict.the-variants.{Done, Refused}
-use Rattle.bus.specs.declared.refusal.Refusal.the-variants.{NoTarget, NoCommand, TooMuchData, TooManySymbols, OutboxFull, NoMaster, NoSlave, BookFull, Running, NoSuchAddress, InUse, NoRoom}
+use Rattle.bus.specs.declared.refusal.Refusal.the-variants.{NoTarget, NoCommand, TooMuchData, OutboxFull, NoMaster, NoSlave, BookFull, Running, NoSuchAddress, InUse, NoRoom}
 use Rattle.bus.specs.Bus.{seats, unseated, poweredOn, attachedTo, attachedTurns, turnAt, withTurn, refusedBy, done, withBits}
 use Rattle.bus.specs.Find.{firstOf}
 use Rattle.bus.specs.Attach.{noSuchAddress, occupied, newcomer, takesSeat, attaches}
-use Rattle.bus.specs.Queue.{noTarget, noCommand, holds, queuesTelegram, queuesFrom, queuesAt, queues}
+use Rattle.bus.specs.Queue.{noTarget, noCommand, holds, queuesFrom, queuesAt, queues}
 use Rattle.bus.specs.Reply.{withReplies, writes, repliesFrom, repliesAt, replies}
 use Rattle.bus.specs.Slot.{spoken, turned, mapFirst, slotHeard, slotRun}
 use Rattle.bus.proofs.Loops.{attached-fit, length-mapFirst}
@@ -89,7 +88,7 @@ did-attach b a m =
     tested b (ltb (b .count) seats) (λ h. attached r n o (ltb-true (b .count) seats h)) λ _. turned-down b NoRoom
 
 pub did-queue : (b : Bus) (qq zz pb sb : ℕ) (bytes : List ℕ) → Did b (queue qq zz pb sb bytes) (queues b qq zz pb sb bytes)
-unfolding queues queuesFrom queuesTelegram holds done
+unfolding queues queuesFrom holds done
 did-queue b qq zz pb sb bytes = at (firstOf b (Master qq))
   where
     telegram : ℕ → Telegram
@@ -100,7 +99,6 @@ did-queue b qq zz pb sb bytes = at (firstOf b (Master qq))
         tested b (noTarget (turnAt b i .station) zz) (λ _. turned-down b NoTarget) λ _.
         tested b (noCommand pb sb) (λ _. turned-down b NoCommand) λ _.
         tested b (ltb 16 (length bytes)) (λ _. turned-down b TooMuchData) λ _.
-        tested b (ltb room (length (telegramForm (telegram i)))) (λ _. turned-down b TooManySymbols) λ _.
         tested b (accepted (turnAt b i .station .outbox) (telegram i) .taken) (λ _. queued i (telegram i) (load-sixteen bytes)) λ _. turned-down b OutboxFull
     at Missing = turned-down b NoMaster
 
