@@ -1,6 +1,7 @@
 pub mod BrokenPairs
 pub mod Buffer
 pub mod ByPlace
+pub mod Counted
 pub mod Endings
 pub mod Expand
 pub mod Filling

@@ -1,4 +1,5 @@
 pub mod BrokenPairs
+pub mod Counted
 pub mod Examples
 pub mod Form
 pub mod Load
