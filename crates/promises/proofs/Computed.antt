@@ -3,6 +3,7 @@ pub mod ElapsedRuns
 pub mod FailedRuns
 pub mod FirstSlotWin
 pub mod FormWitnesses
+pub mod Longest
 pub mod NextRuns
 pub mod RefusedRuns
 pub mod Runs

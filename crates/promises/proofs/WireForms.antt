@@ -1,23 +1,28 @@
--- Each message that a call accepts has one wire form, and reading that form gives the message back (01, "Wire form", "Reading").
--- Assumes nothing.
-use Prim.Native.Nat.{ℕ, suc}
-use mathlib.Core.Path.{_≡_, refl, ap, _∙_}
+-- Each message that a call accepts has one wire form, the wire buffer holds all of it, and reading that form gives the message back
+-- (01, "Wire form", "Reading"; 02, E8). Assumes nothing.
+use Prim.Native.Nat.{ℕ, suc, _≤_}
+use mathlib.Core.Path.{_≡_, refl, ap, subst, _∙_}
 use mathlib.Core.Bool.{true}
 use mathlib.Core.List.{List, [], _∷_, _++_}
 use mathlib.Core.Logic.{inl, inr}
 use native.Mathlib.Omega.{arith}
+use lib.ListN.{length}
 use Rattle.address.specs.Master.{isMaster}
-use Rattle.wire.specs.Form.{headOf, bytesOf, telegramForm, answerForm}
+use Rattle.wire.specs.Counted.{InFull}
+use Rattle.wire.specs.Form.{headOf, bytesOf, form, holding, telegramForm, answerForm}
 use Rattle.wire.specs.Load.{loadOf}
 use Rattle.wire.specs.Reader.{masterStart, answerStart, startOf, withLoad}
 use Rattle.wire.specs.Reading.{Sixteen, readAll, Usable, Message, GivesBack, before, formOf, readInto, If-master}
+use Rattle.wire.specs.declared.form.Wire.{Wire}
 use Rattle.wire.specs.declared.part.Part.{Part}
 use Rattle.wire.specs.declared.part.Part.the-variants.{MasterPart, AnswerPart}
 use Rattle.wire.specs.declared.part.Telegram.{Telegram}
 use Rattle.wire.specs.declared.reader.Outcome.the-variants.{Whole}
+use Rattle.wire.proofs.Counted.{telegram-in-full, answer-in-full}
 use Rattle.wire.proofs.Fitting.{load-sixteen, load-carries}
 use Rattle.wire.proofs.OneForm.{one-form}
 use Rattle.wire.proofs.ReadBack.{read-back}
+use Rattle.wire.proofs.Symbols.{telegram-at-most-39, answer-at-most-35}
 use Rattle.bus.specs.declared.bus.Bus.{Bus}
 use Rattle.bus.specs.declared.refusal.Verdict.{Verdict}
 use Rattle.bus.specs.declared.refusal.Verdict.the-variants.{Done}
@@ -188,3 +193,40 @@ pub replied-one-form :
 unfolding answerForm
 replied-one-form b a pb sb bytes d p array ss left e f r =
     this-form AnswerPart (withLoad p (loadOf bytes)) p array bytes (reply-carries b a pb sb bytes d) ss left e refl f r
+
+-- ---- how long they are
+
+-- the wire form with all the bytes of a call, and a buffer in which nothing of it is cut off
+pub record Fits (most : ℕ) (symbols : List ℕ) (w : Wire) : Type 0 where
+  pub at-most : length symbols ≤ most
+  pub in-full : InFull w symbols
+
+-- what a queue call accepts has at most 39 symbols, and the buffer that its wire form is made in holds every one of them
+pub queued-fits :
+    -- any bus, and a queue call on it
+    (b : Bus) (qq zz pb sb : ℕ) (bytes : List ℕ)
+    -- that is not refused
+    → verdictOn b (queue qq zz pb sb bytes) ≡ Done
+    -- QQ ZZ PB SB, NN, all of these bytes, CRC
+    → Fits 39 (form (qq ∷ zz ∷ pb ∷ sb ∷ []) bytes) (holding (telegramForm (telegramOf qq zz pb sb bytes)))
+unfolding telegramForm
+queued-fits b qq zz pb sb bytes d =
+    let t = telegramOf qq zz pb sb bytes in
+    let f : Fits 39 (telegramForm t) (holding (telegramForm t)) =
+    record { at-most = telegram-at-most-39 t (load-sixteen bytes); in-full = telegram-in-full t (load-sixteen bytes) } in
+    subst (λ (bs : List ℕ). Fits 39 (form (headOf t) bs) (holding (telegramForm t))) (queue-carries b qq zz pb sb bytes d) f
+
+-- what a reply call accepts has at most 35
+pub replied-fits :
+    -- any bus, and a reply call on it, with a slave address, PB, SB and bytes
+    (b : Bus) (a pb sb : ℕ) (bytes : List ℕ)
+    -- that is not refused
+    → verdictOn b (reply a pb sb bytes) ≡ Done
+    -- NN, all of these bytes, CRC
+    → Fits 35 (form [] bytes) (holding (answerForm (loadOf bytes)))
+unfolding answerForm
+replied-fits b a pb sb bytes d =
+    let l = loadOf bytes in
+    let f : Fits 35 (answerForm l) (holding (answerForm l)) =
+    record { at-most = answer-at-most-35 l (load-sixteen bytes); in-full = answer-in-full l (load-sixteen bytes) } in
+    subst (λ (bs : List ℕ). Fits 35 (form [] bs) (holding (answerForm l))) (reply-carries b a pb sb bytes d) f

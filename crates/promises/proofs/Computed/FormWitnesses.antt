@@ -4,8 +4,8 @@ use mathlib.Core.Path.{_≡_, refl}
 use mathlib.Core.Bool.{Bool, true, false}
 use mathlib.Core.List.{List, [], _∷_}
 use native.Mathlib.Omega.{arith}
-use lib.ListN.{length, replicate}
-use Rattle.wire.specs.Form.{bytesOf, telegramForm}
+use lib.ListN.{replicate}
+use Rattle.wire.specs.Form.{bytesOf}
 use Rattle.wire.specs.Reader.{startOf}
 use Rattle.wire.specs.Reading.{Sixteen, readAll, before}
 use Rattle.wire.specs.declared.part.Part.{Part}
@@ -14,7 +14,6 @@ use Rattle.wire.specs.declared.part.Telegram.{Telegram}
 use Rattle.wire.specs.declared.reader.Outcome.the-variants.{Whole}
 use Rattle.bus.specs.declared.refusal.Verdict.the-variants.{Done}
 use Rattle.bus.specs.Bus.{poweredOn}
-use Rattle.promises.specs.Accepted.{telegramOf}
 use Rattle.promises.specs.Calls.{Call, attach, queue, reply, afterCalls, Reachable}
 use Rattle.promises.specs.Slots.{verdictOn}
 use Rattle.promises.proofs.Computed.Runs.{run}
@@ -35,22 +34,6 @@ part-accepted = refl
 answer-accepted : verdictOn (afterCalls poweredOn two) (reply 0x08 0x50 0x02 (0x64 ∷ [])) ≡ Done
 unfolding run
 answer-accepted = refl
-
--- ---- the longest master part
-
--- 16 bytes that all expand, with a CRC, A9, that expands too
-abbrev pub longest : List ℕ
-longest =
-    0xAA ∷ 0xA9 ∷ 0xA9 ∷ 0xA9 ∷ 0xA9 ∷ 0xA9 ∷ 0xA9 ∷ 0xAA ∷ 0xA9 ∷ 0xA9 ∷ 0xA9 ∷ 0xA9 ∷ 0xA9 ∷ 0xA9 ∷ 0xA9 ∷ 0xA9 ∷ []
-
-pub longest-accepted : verdictOn (afterCalls poweredOn two) (queue 0x10 0x08 0x50 0x02 longest) ≡ Done
-unfolding run
-longest-accepted = refl
-
--- it has exactly the 39 symbols that `telegram-at-most-39` (wire) allows
-pub longest-has-39 : length (telegramForm (telegramOf 0x10 0x08 0x50 0x02 longest)) ≡ 39
-unfolding run
-longest-has-39 = refl
 
 -- ---- readings
 
