@@ -1,5 +1,6 @@
 pub mod AcceptedHeld
 pub mod AnyOrder
+pub mod AsBefore
 pub mod Computed
 pub mod Contest
 pub mod ElapsedIsTrue
