@@ -1,6 +1,6 @@
 -- Each message that a call accepts has one wire form, the wire buffer holds all of it, and reading that form gives the message back
 -- (01, "Wire form", "Reading"; 02, E8). Assumes nothing.
-use Prim.Native.Nat.{ℕ, suc, _≤_}
+use Prim.Native.Nat.{ℕ, suc, _≤_, _<_}
 use mathlib.Core.Path.{_≡_, refl, ap, subst, _∙_}
 use mathlib.Core.Bool.{true}
 use mathlib.Core.List.{List, [], _∷_, _++_}
@@ -14,6 +14,7 @@ use Rattle.wire.specs.Load.{loadOf}
 use Rattle.wire.specs.Reader.{masterStart, answerStart, startOf, withLoad}
 use Rattle.wire.specs.Reading.{Sixteen, readAll, Usable, Message, GivesBack, before, formOf, readInto, If-master}
 use Rattle.wire.specs.declared.form.Wire.{Wire}
+use Rattle.wire.specs.declared.part.Load.{Load}
 use Rattle.wire.specs.declared.part.Part.{Part}
 use Rattle.wire.specs.declared.part.Part.the-variants.{MasterPart, AnswerPart}
 use Rattle.wire.specs.declared.part.Telegram.{Telegram}
@@ -23,7 +24,11 @@ use Rattle.wire.proofs.Fitting.{load-sixteen, load-carries}
 use Rattle.wire.proofs.OneForm.{one-form}
 use Rattle.wire.proofs.ReadBack.{read-back}
 use Rattle.wire.proofs.Symbols.{telegram-at-most-39, answer-at-most-35}
+use Rattle.station.specs.Outbox.{waiting}
+use Rattle.station.specs.Replies.{answerFor}
+use Rattle.laws.proofs.FirstIs.{Every, every-map}
 use Rattle.bus.specs.declared.bus.Bus.{Bus}
+use Rattle.bus.specs.Bus.{attachedTo}
 use Rattle.bus.specs.declared.refusal.Verdict.{Verdict}
 use Rattle.bus.specs.declared.refusal.Verdict.the-variants.{Done}
 use Rattle.bus.specs.Conditions.{verdictNumber, NoSource, Forbidden, WrongTarget, WrongCommand, MuchData, NoSlaveThere}
@@ -33,9 +38,11 @@ use Rattle.bus.proofs.RefusedQueue as Q
 use Rattle.bus.proofs.RefusedReply as R
 use Rattle.promises.specs.Accepted.{telegramOf}
 use Rattle.promises.specs.Calls.{queue, reply, Reachable}
-use Rattle.promises.specs.Fit.{Fit}
+use Rattle.promises.specs.Fit.{stationAt, Fit}
 use Rattle.promises.specs.Slots.{verdictOn}
+use Rattle.promises.proofs.Shared.Arrays.{every-take, answer-full}
 use Rattle.promises.proofs.Shared.FitKept.{reachable-fit}
+use Rattle.promises.proofs.Shared.Stations.{reachable-sane}
 
 -- ---- what a call that is done lets through: no line of 01's table holds
 
@@ -201,6 +208,12 @@ pub record Fits (most : ℕ) (symbols : List ℕ) (w : Wire) : Type 0 where
   pub at-most : length symbols ≤ most
   pub in-full : InFull w symbols
 
+part-fits : (t : Telegram) → Sixteen (t .load) → Fits 39 (telegramForm t) (holding (telegramForm t))
+part-fits t full = record { at-most = telegram-at-most-39 t full; in-full = telegram-in-full t full }
+
+answer-fits : (l : Load) → Sixteen l → Fits 35 (answerForm l) (holding (answerForm l))
+answer-fits l full = record { at-most = answer-at-most-35 l full; in-full = answer-in-full l full }
+
 -- what a queue call accepts has at most 39 symbols, and the buffer that its wire form is made in holds every one of them
 pub queued-fits :
     -- any bus, and a queue call on it
@@ -212,9 +225,8 @@ pub queued-fits :
 unfolding telegramForm
 queued-fits b qq zz pb sb bytes d =
     let t = telegramOf qq zz pb sb bytes in
-    let f : Fits 39 (telegramForm t) (holding (telegramForm t)) =
-    record { at-most = telegram-at-most-39 t (load-sixteen bytes); in-full = telegram-in-full t (load-sixteen bytes) } in
-    subst (λ (bs : List ℕ). Fits 39 (form (headOf t) bs) (holding (telegramForm t))) (queue-carries b qq zz pb sb bytes d) f
+    subst (λ (bs : List ℕ). Fits 39 (form (headOf t) bs) (holding (telegramForm t))) (queue-carries b qq zz pb sb bytes d)
+    (part-fits t (load-sixteen bytes))
 
 -- what a reply call accepts has at most 35
 pub replied-fits :
@@ -227,6 +239,17 @@ pub replied-fits :
 unfolding answerForm
 replied-fits b a pb sb bytes d =
     let l = loadOf bytes in
-    let f : Fits 35 (answerForm l) (holding (answerForm l)) =
-    record { at-most = answer-at-most-35 l (load-sixteen bytes); in-full = answer-in-full l (load-sixteen bytes) } in
-    subst (λ (bs : List ℕ). Fits 35 (form [] bs) (holding (answerForm l))) (reply-carries b a pb sb bytes d) f
+    subst (λ (bs : List ℕ). Fits 35 (form [] bs) (holding (answerForm l))) (reply-carries b a pb sb bytes d)
+    (answer-fits l (load-sixteen bytes))
+
+-- so after any calls from power-on fits whatever waits at a station
+pub waiting-fits : {b : Bus} → Reachable b → (i : ℕ) → i < attachedTo b
+    → Every (λ (t : Telegram). Fits 39 (telegramForm t) (holding (telegramForm t))) (waiting (stationAt b i .outbox))
+unfolding waiting
+waiting-fits {b} r i l = every-map part-fits (every-take (reachable-sane r i l .telegrams) (stationAt b i .outbox .held))
+
+-- and whatever it would answer
+pub answers-fit : {b : Bus} → Reachable b → (i : ℕ) → i < attachedTo b → (pb sb : ℕ)
+    → let l = answerFor (stationAt b i .replies) pb sb in Fits 35 (answerForm l) (holding (answerForm l))
+answers-fit {b} r i l pb sb =
+    answer-fits (answerFor (stationAt b i .replies) pb sb) (answer-full (stationAt b i .replies) pb sb (reachable-sane r i l .entries))

@@ -4,7 +4,7 @@ use mathlib.Core.Bool.{Bool, true, false, cond}
 use mathlib.Core.List.{List, _++_}
 use Prim.Native.Nat.{ℕ, zero, suc, _+_, _-_}
 use lib.Dec.{eqb, ltb}
-use lib.ListN.{getD, set, drop}
+use lib.ListN.{getD, set, take, drop}
 use Rattle.wire.specs.Reading.{Sixteen}
 use Rattle.wire.specs.declared.part.Telegram.{Telegram}
 use Rattle.station.specs.Outbox.{queueDepth, noTelegram, noneHeld, accepted, oldestOf, dropped}
@@ -40,6 +40,11 @@ module _ {A : Type 0} {P : A → Type 0} where
   every-drop qs zero = qs
   every-drop none (suc i) = none
   every-drop (next q qs) (suc i) = every-drop qs i
+
+  pub every-take : {l : List A} → Every P l → (i : ℕ) → Every P (take i l)
+  every-take qs zero = none
+  every-take none (suc i) = none
+  every-take (next q qs) (suc i) = next q (every-take qs i)
 
 abbrev pub AllFull : Outbox → Type 0
 AllFull o = Every Full (o .slots)
