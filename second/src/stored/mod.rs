@@ -12,6 +12,7 @@ pub mod display;
 mod elapsed;
 mod form;
 pub mod logs;
+mod longest;
 mod over_long;
 mod parts;
 mod text;
@@ -62,6 +63,7 @@ pub fn entries() -> impl Iterator<Item = &'static Entry> {
         over_long::ENTRIES,
         elapsed::ENTRIES,
         broken_pair::ENTRIES,
+        longest::ENTRIES,
     ];
     lists.into_iter().flatten()
 }
