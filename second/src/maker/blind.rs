@@ -2,9 +2,9 @@
 
 use super::draft::Draft;
 use crate::scenario::Op;
-use crate::wire::{is_master, Wire, ACK, BROADCAST, NAK, SYN};
+use crate::wire::{is_master, spelled, ACK, BROADCAST, NAK, SYN};
 
-/// A foreign device may send more than 16; so many always fit a wire buffer.
+/// A foreign device may send more than 16, and more than fits a wire buffer.
 const FOREIGN_DATA: usize = 18;
 
 pub fn fill(draft: &mut Draft) {
@@ -52,13 +52,13 @@ fn foreign_telegram(draft: &mut Draft) {
     let [pb, sb] = draft.command();
     let mut data = draft.data();
     data.truncate(FOREIGN_DATA);
-    let part = Wire::master_part([source, target, pb, sb], &data);
-    spell(draft, part.symbols());
+    let part = spelled(&[source, target, pb, sb], &data);
+    spell(draft, &part);
     if target == BROADCAST {
         return;
     }
     if acknowledge(draft) == Some(NAK) {
-        spell(draft, part.symbols());
+        spell(draft, &part);
         acknowledge(draft);
     }
     if !is_master(target) {
@@ -101,8 +101,7 @@ fn foreign_answer(draft: &mut Draft) {
     } else {
         let mut data = draft.data();
         data.truncate(FOREIGN_DATA);
-        let answer = Wire::answer(&data);
-        spell(draft, answer.symbols());
+        spell(draft, &spelled(&[], &data));
     }
     if acknowledge(draft) == Some(NAK) {
         let count = draft.random.between(1, 12);
