@@ -1,12 +1,12 @@
-//! How often each event, each refusal, each NN above 16 and each broken pair
-//! came up, and how long the wire was held.
+//! How often each event, each refusal, each NN above 16, each broken pair and
+//! the longest parts came up, and how long the wire was held.
 
 use crate::event::{Event, Failure, Place, Role, Tenure, Unusable, Word};
 use crate::intake::BrokenPair;
-use crate::wire::ESC;
+use crate::wire::{ESC, WIRE_MAX};
 use std::fmt;
 
-const NAMES: [&str; 51] = [
+const NAMES: [&str; 53] = [
     "owns",
     "taken-owner",
     "taken-slave",
@@ -58,6 +58,8 @@ const NAMES: [&str; 51] = [
     "left-given-broadcast",
     "free-1",
     "free-over-255",
+    "part-39",
+    "answer-35",
 ];
 
 /// There is no refusal 6 or 13.
@@ -83,6 +85,13 @@ const LEFT: usize = 45;
 /// Owners that fail at once, and those whose count needs a second byte.
 const FREE_1: usize = 49;
 const FREE_OVER_255: usize = 50;
+
+/// Handed out with as many symbols as there can be.
+const PART_39: usize = 51;
+const ANSWER_35: usize = 52;
+
+/// An answer begins at NN, four symbols later than a part.
+const LONGEST_ANSWER: usize = WIRE_MAX - 4;
 
 #[derive(Clone)]
 pub struct Coverage {
@@ -128,6 +137,15 @@ fn place_by_tenure(event: &Event) -> Option<usize> {
     }
 }
 
+/// The longest parts and answers count a second time.
+fn place_by_length(event: &Event) -> Option<usize> {
+    match &event.word {
+        Word::Given { part, .. } if part.symbols() == WIRE_MAX => Some(PART_39),
+        Word::Answer { part, .. } if part.symbols() == LONGEST_ANSWER => Some(ANSWER_35),
+        _ => None,
+    }
+}
+
 impl Coverage {
     pub fn scenario(&mut self) {
         self.scenarios += 1;
@@ -135,7 +153,7 @@ impl Coverage {
 
     pub fn event(&mut self, event: &Event) {
         self.counts[place_of(event)] += 1;
-        if let Some(place) = place_by_tenure(event) {
+        for place in [place_by_tenure(event), place_by_length(event)].into_iter().flatten() {
             self.counts[place] += 1;
         }
         self.longest = self.longest.max(event.elapsed());

@@ -50,9 +50,7 @@ fn foreign_telegram(draft: &mut Draft) {
     let source = if draft.random.percent(94) { draft.any_master() } else { draft.near_master() };
     let target = draft.target();
     let [pb, sb] = draft.command();
-    let mut data = draft.data();
-    data.truncate(FOREIGN_DATA);
-    let part = spelled(&[source, target, pb, sb], &data);
+    let part = foreign_part(draft, &[source, target, pb, sb]);
     spell(draft, &part);
     if target == BROADCAST {
         return;
@@ -64,6 +62,13 @@ fn foreign_telegram(draft: &mut Draft) {
     if !is_master(target) {
         foreign_answer(draft);
     }
+}
+
+/// A part or, with no head, an answer.
+fn foreign_part(draft: &mut Draft, head: &[u8]) -> Vec<u8> {
+    let mut data = draft.data_behind(head);
+    data.truncate(FOREIGN_DATA);
+    spelled(head, &data)
 }
 
 /// The symbols of a part, now and then damaged or with quiet between them.
@@ -99,9 +104,8 @@ fn foreign_answer(draft: &mut Draft) {
         let count = draft.random.between(1, 12);
         draft.run(count);
     } else {
-        let mut data = draft.data();
-        data.truncate(FOREIGN_DATA);
-        spell(draft, &spelled(&[], &data));
+        let answer = foreign_part(draft, &[]);
+        spell(draft, &answer);
     }
     if acknowledge(draft) == Some(NAK) {
         let count = draft.random.between(1, 12);
