@@ -1,13 +1,12 @@
-//! How often each event, each refusal, each NN above 16 and each broken pair
-//! came up, and how long the wire was held.
+//! How often each event, each refusal, each NN above 16, each broken pair and
+//! the longest parts came up, and how long the wire was held.
 
 use crate::event::{Event, Failure, Place, Role, Tenure, Unusable, Word};
 use crate::intake::BrokenPair;
-use crate::wire::ESC;
+use crate::wire::{ESC, WIRE_MAX};
 use std::fmt;
 
-/// There is no refusal 13.
-const NAMES: [&str; 52] = [
+const NAMES: [&str; 53] = [
     "owns",
     "taken-owner",
     "taken-slave",
@@ -30,7 +29,6 @@ const NAMES: [&str; 52] = [
     "refused-3",
     "refused-4",
     "refused-5",
-    "refused-6",
     "refused-7",
     "refused-8",
     "refused-9",
@@ -60,33 +58,40 @@ const NAMES: [&str; 52] = [
     "left-given-broadcast",
     "free-1",
     "free-over-255",
+    "part-39",
+    "answer-35",
 ];
 
-/// Before refusal 1.
-const REFUSED: usize = 16;
+/// There is no refusal 6 or 13.
+const REFUSALS: [u8; 13] = [1, 2, 3, 4, 5, 7, 8, 9, 10, 11, 12, 14, 15];
 
 /// The first of each group; the others stand in the order of their numbers or
 /// of their enum.
 const FAILED_OWNER: usize = 3;
 const FAILED_SLAVE: usize = 9;
-const OVER_LONG: usize = 31;
-const PAIR: usize = 36;
+const REFUSED: usize = 17;
+const OVER_LONG: usize = 30;
+const PAIR: usize = 35;
 
 /// The first of what a broken pair that an owner is told may be besides.
-const PAIR_TOLD: usize = 41;
+const PAIR_TOLD: usize = 40;
 
 /// NN and sixteen data bytes in two symbols each come before it.
 const GREATEST_POSITION: u8 = 33;
 
 /// What somebody in step is told after the owner has left.
-const LEFT: usize = 46;
+const LEFT: usize = 45;
 
 /// Owners that fail at once, and those whose count needs a second byte.
-const FREE_1: usize = 50;
-const FREE_OVER_255: usize = 51;
+const FREE_1: usize = 49;
+const FREE_OVER_255: usize = 50;
 
-/// The longest part has 39 symbols, so nothing exceeds the wire buffer.
-const UNREACHABLE: &str = "refused-6";
+/// Handed out with as many symbols as there can be.
+const PART_39: usize = 51;
+const ANSWER_35: usize = 52;
+
+/// An answer begins at NN, four symbols later than a part.
+const LONGEST_ANSWER: usize = WIRE_MAX - 4;
 
 #[derive(Clone)]
 pub struct Coverage {
@@ -132,6 +137,15 @@ fn place_by_tenure(event: &Event) -> Option<usize> {
     }
 }
 
+/// The longest parts and answers count a second time.
+fn place_by_length(event: &Event) -> Option<usize> {
+    match &event.word {
+        Word::Given { part, .. } if part.symbols() == WIRE_MAX => Some(PART_39),
+        Word::Answer { part, .. } if part.symbols() == LONGEST_ANSWER => Some(ANSWER_35),
+        _ => None,
+    }
+}
+
 impl Coverage {
     pub fn scenario(&mut self) {
         self.scenarios += 1;
@@ -139,7 +153,7 @@ impl Coverage {
 
     pub fn event(&mut self, event: &Event) {
         self.counts[place_of(event)] += 1;
-        if let Some(place) = place_by_tenure(event) {
+        for place in [place_by_tenure(event), place_by_length(event)].into_iter().flatten() {
             self.counts[place] += 1;
         }
         self.longest = self.longest.max(event.elapsed());
@@ -149,8 +163,8 @@ impl Coverage {
     }
 
     pub fn refusal(&mut self, number: u8) {
-        let without_13 = if number > 13 { number - 1 } else { number };
-        self.counts[REFUSED + without_13 as usize] += 1;
+        let place = REFUSALS.iter().position(|&refusal| refusal == number);
+        self.counts[REFUSED + place.expect("a number that 01 has")] += 1;
     }
 
     pub fn unusable(&mut self, unusable: &Unusable) {
@@ -190,9 +204,7 @@ impl Coverage {
 
     /// What a wild enough maker should have reached and has not.
     pub fn missing(&self) -> Vec<&'static str> {
-        let mut missing = never(&NAMES, &self.counts);
-        missing.retain(|name| *name != UNREACHABLE);
-        missing
+        never(&NAMES, &self.counts)
     }
 
     /// The same for the positions that an owner can be told.

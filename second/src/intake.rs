@@ -121,6 +121,11 @@ impl Intake {
         (read.len() + pairs) as u8
     }
 
+    /// The same for a whole, sound part with its check symbol.
+    pub fn symbols(&self) -> usize {
+        self.symbols_read() as usize + 1 + usize::from(goes_as_pair(self.register))
+    }
+
     fn nn(&self) -> usize {
         self.bytes[NN] as usize
     }

@@ -1,7 +1,7 @@
 //! The stations: their addresses, queues and replies, and the calls that
 //! fill them. A call that is turned down changes nothing.
 
-use crate::wire::{is_master, is_slave, slave_of, Wire, ESC, MAX_DATA, SYN, WIRE_MAX};
+use crate::wire::{is_master, is_slave, slave_of, Wire, ESC, MAX_DATA, SYN};
 
 pub const MAX_STATIONS: usize = 32;
 pub const QUEUE_DEPTH: usize = 4;
@@ -117,18 +117,13 @@ impl Table {
         if data.len() > MAX_DATA {
             return Err(4);
         }
-        let part = Wire::master_part(head, data);
-        // Never so: with 16 data bytes the longest part has 39 symbols.
-        if part.symbols().len() > WIRE_MAX {
-            return Err(6);
-        }
         let station = self.station_at[qq as usize];
         let queue = &mut self.queues[station as usize];
         if queue.held as usize == QUEUE_DEPTH {
             return Err(5);
         }
         let tail = (queue.head + queue.held) as usize % QUEUE_DEPTH;
-        queue.parts[tail] = part;
+        queue.parts[tail] = Wire::master_part(head, data);
         queue.held += 1;
         self.waiting |= 1 << station;
         Ok(())

@@ -6,7 +6,10 @@ pub const ACK: u8 = 0x00;
 pub const NAK: u8 = 0xFF;
 pub const BROADCAST: u8 = 0xFE;
 pub const MAX_DATA: usize = 16;
-pub const WIRE_MAX: usize = 44;
+
+/// What a wire buffer holds: the longest part. QQ ZZ PB SB NN go as they are;
+/// sixteen data bytes and the check symbol may all go as pairs.
+pub const WIRE_MAX: usize = 39;
 
 /// x^8 + x^7 + x^4 + x^3 + x + 1 without its leading term.
 const POLYNOMIAL: u8 = 0x9B;
@@ -56,7 +59,30 @@ pub fn crc_step(register: u8, symbol: u8) -> u8 {
     value ^ symbol
 }
 
-/// The symbols of one part as they go out, check symbol included.
+/// The symbols of a part, check symbol included, however many they are: a
+/// foreign device may send more than a buffer here holds. The check symbol is
+/// taken over the expanded form.
+pub fn spelled(head: &[u8], data: &[u8]) -> Vec<u8> {
+    let mut symbols = Vec::with_capacity(WIRE_MAX);
+    symbols.extend_from_slice(head);
+    symbols.push(data.len() as u8);
+    for &value in data {
+        push_expanded(&mut symbols, value);
+    }
+    let crc = symbols.iter().fold(0, |register, &symbol| crc_step(register, symbol));
+    push_expanded(&mut symbols, crc);
+    symbols
+}
+
+fn push_expanded(symbols: &mut Vec<u8>, value: u8) {
+    match value {
+        SYN => symbols.extend([ESC, 0x01]),
+        ESC => symbols.extend([ESC, 0x00]),
+        plain => symbols.push(plain),
+    }
+}
+
+/// The symbols of one part as a station here sends them.
 #[derive(Clone, Copy)]
 pub struct Wire {
     symbols: [u8; WIRE_MAX],
@@ -74,39 +100,13 @@ impl Wire {
         Wire::build(&[], data)
     }
 
-    /// The check symbol is taken over what has been pushed so far, so it is
-    /// the expanded form that counts.
+    /// For at most 16 data bytes; a part that does not fit ends the program.
     fn build(head: &[u8], data: &[u8]) -> Wire {
+        let symbols = spelled(head, data);
         let mut wire = Wire::EMPTY;
-        for &symbol in head {
-            wire.push(symbol);
-        }
-        wire.push(data.len() as u8);
-        for &value in data {
-            wire.push_expanded(value);
-        }
-        let crc = wire.symbols().iter().fold(0, |register, &s| crc_step(register, s));
-        wire.push_expanded(crc);
+        wire.symbols[..symbols.len()].copy_from_slice(&symbols);
+        wire.len = symbols.len() as u8;
         wire
-    }
-
-    fn push(&mut self, symbol: u8) {
-        self.symbols[self.len as usize] = symbol;
-        self.len += 1;
-    }
-
-    fn push_expanded(&mut self, value: u8) {
-        match value {
-            SYN => {
-                self.push(ESC);
-                self.push(0x01);
-            }
-            ESC => {
-                self.push(ESC);
-                self.push(0x00);
-            }
-            plain => self.push(plain),
-        }
     }
 
     pub fn symbols(&self) -> &[u8] {

@@ -2,9 +2,9 @@
 
 use super::draft::Draft;
 use crate::scenario::Op;
-use crate::wire::{is_master, Wire, ACK, BROADCAST, NAK, SYN};
+use crate::wire::{is_master, spelled, ACK, BROADCAST, NAK, SYN};
 
-/// A foreign device may send more than 16; so many always fit a wire buffer.
+/// A foreign device may send more than 16, and more than fits a wire buffer.
 const FOREIGN_DATA: usize = 18;
 
 pub fn fill(draft: &mut Draft) {
@@ -50,20 +50,25 @@ fn foreign_telegram(draft: &mut Draft) {
     let source = if draft.random.percent(94) { draft.any_master() } else { draft.near_master() };
     let target = draft.target();
     let [pb, sb] = draft.command();
-    let mut data = draft.data();
-    data.truncate(FOREIGN_DATA);
-    let part = Wire::master_part([source, target, pb, sb], &data);
-    spell(draft, part.symbols());
+    let part = foreign_part(draft, &[source, target, pb, sb]);
+    spell(draft, &part);
     if target == BROADCAST {
         return;
     }
     if acknowledge(draft) == Some(NAK) {
-        spell(draft, part.symbols());
+        spell(draft, &part);
         acknowledge(draft);
     }
     if !is_master(target) {
         foreign_answer(draft);
     }
+}
+
+/// A part or, with no head, an answer.
+fn foreign_part(draft: &mut Draft, head: &[u8]) -> Vec<u8> {
+    let mut data = draft.data_behind(head);
+    data.truncate(FOREIGN_DATA);
+    spelled(head, &data)
 }
 
 /// The symbols of a part, now and then damaged or with quiet between them.
@@ -99,10 +104,8 @@ fn foreign_answer(draft: &mut Draft) {
         let count = draft.random.between(1, 12);
         draft.run(count);
     } else {
-        let mut data = draft.data();
-        data.truncate(FOREIGN_DATA);
-        let answer = Wire::answer(&data);
-        spell(draft, answer.symbols());
+        let answer = foreign_part(draft, &[]);
+        spell(draft, &answer);
     }
     if acknowledge(draft) == Some(NAK) {
         let count = draft.random.between(1, 12);

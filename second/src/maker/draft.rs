@@ -1,10 +1,11 @@
 //! A scenario in the making, with the bus it leads to, and the calls both
 //! kinds of makers use.
 
+use super::longest;
 use crate::bench::Bench;
 use crate::random::Random;
 use crate::scenario::{self, Op};
-use crate::wire::{goes_as_pair, is_master, slave_of, Wire, BROADCAST, ESC, MAX_DATA, NAK, SYN};
+use crate::wire::{goes_as_pair, is_master, slave_of, spelled, BROADCAST, ESC, MAX_DATA, NAK, SYN};
 
 const HALVES: [u8; 5] = [0x0, 0x1, 0x3, 0x7, 0xF];
 const PBS: [u8; 3] = [0x05, 0x07, 0x50];
@@ -170,7 +171,7 @@ impl Draft {
         }
     }
 
-    pub fn data(&mut self) -> Vec<u8> {
+    fn data(&mut self) -> Vec<u8> {
         let len = match self.random.below(100) {
             0..=54 => self.random.between(0, 3),
             55..=84 => self.random.between(0, 9),
@@ -196,9 +197,8 @@ impl Draft {
             _ => self.target_other_than(source),
         };
         let [pb, sb] = self.command();
-        let mut data = self.data();
         let head = [source, target, pb, sb];
-        self.steer(&mut data, |data| Wire::master_part(head, data));
+        let data = self.data_behind(&head);
         self.put(Op::Queue { head, data: &data });
     }
 
@@ -214,14 +214,24 @@ impl Draft {
     }
 
     pub fn reply_to(&mut self, address: u8, pb: u8, sb: u8) {
-        let mut data = self.data();
-        self.steer(&mut data, Wire::answer);
+        let data = self.data_behind(&[]);
         self.put(Op::Reply { address, pb, sb, data: &data });
+    }
+
+    /// Data behind the head of a part; an answer has none. A few times in a
+    /// hundred they take as many symbols as data can.
+    pub fn data_behind(&mut self, head: &[u8]) -> Vec<u8> {
+        if self.random.percent(4) {
+            return longest::data(&mut self.random, head);
+        }
+        let mut data = self.data();
+        self.steer(&mut data, head);
+        data
     }
 
     /// Now and then the last data byte is chosen so that the check symbol has
     /// to go out as a pair.
-    fn steer(&mut self, data: &mut [u8], part: impl Fn(&[u8]) -> Wire) {
+    fn steer(&mut self, data: &mut [u8], head: &[u8]) {
         if data.is_empty() || data.len() > MAX_DATA || !self.random.percent(12) {
             return;
         }
@@ -229,7 +239,7 @@ impl Draft {
         let last = data.len() - 1;
         for value in 0..=0xFF {
             data[last] = value;
-            if !goes_as_pair(value) && part(data).symbols().ends_with(&pair) {
+            if !goes_as_pair(value) && spelled(head, data).ends_with(&pair) {
                 return;
             }
         }
@@ -242,6 +252,9 @@ impl Draft {
             let source = self.attached_master();
             for _ in 0..self.random.between(3, 6) {
                 self.queue_from(source);
+            }
+            if self.random.percent(30) {
+                longest::at_the_limit(self, source);
             }
             return;
         }

@@ -9,6 +9,7 @@ mod broken_pair;
 mod draft;
 mod fields;
 mod length;
+mod longest;
 mod ruin;
 mod shares;
 

@@ -12,6 +12,7 @@ pub mod display;
 mod elapsed;
 mod form;
 pub mod logs;
+mod longest;
 mod over_long;
 mod parts;
 mod text;
@@ -62,6 +63,7 @@ pub fn entries() -> impl Iterator<Item = &'static Entry> {
         over_long::ENTRIES,
         elapsed::ENTRIES,
         broken_pair::ENTRIES,
+        longest::ENTRIES,
     ];
     lists.into_iter().flatten()
 }
@@ -213,16 +215,31 @@ mod tests {
             let line = bench::run(&bytes_of(name)).1.to_string();
             line[line.find(" left-").unwrap() + 1..].to_string()
         };
+        let rest = "part-39=0 answer-35=0 longest=";
         let left = "left-taken=1 left-failed=1 left-given-one=2 left-given-broadcast=0";
         assert_eq!(
             counts("elapsed-slave-after-owner"),
-            format!("{left} free-1=0 free-over-255=0 longest=11 pair-positions=0")
+            format!("{left} free-1=0 free-over-255=0 {rest}11 pair-positions=0")
         );
         let none = "left-taken=0 left-failed=0 left-given-one=0 left-given-broadcast=0";
-        let long = format!("{none} free-1=0 free-over-255=1 longest=256 pair-positions=0");
+        let long = format!("{none} free-1=0 free-over-255=1 {rest}256 pair-positions=0");
         assert_eq!(counts("elapsed-quiet-answer"), long);
-        let at_once = format!("{none} free-1=1 free-over-255=0 longest=1 pair-positions=0");
+        let at_once = format!("{none} free-1=1 free-over-255=0 {rest}1 pair-positions=0");
         assert_eq!(counts("access-mark-of-a-loser"), at_once);
+    }
+
+    /// Each given line of 39 symbols, and each answer line of 35.
+    #[test]
+    fn longest_are_counted() {
+        let counts = |name| [counts_of(" part-", name), counts_of(" answer-", name)].join(" ");
+        assert_eq!(counts("part-longest"), "1 0");
+        assert_eq!(counts("longest-repeated"), "1 1");
+        assert_eq!(counts("longest-answer-heard"), "0 1");
+        assert_eq!(counts("longest-broadcast"), "3 0");
+        assert_eq!(counts("longest-beside-38"), "1 0");
+        assert_eq!(counts("longest-last-symbol"), "0 0");
+        assert_eq!(counts("longest-four"), "5 0");
+        assert_eq!(counts("limit-nn-queue"), "0 0");
     }
 
     #[test]

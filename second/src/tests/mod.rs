@@ -11,6 +11,7 @@ mod exact;
 mod foreign;
 mod limits;
 mod logs;
+mod longest;
 mod made;
 mod parts;
 mod refusals;

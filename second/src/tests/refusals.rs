@@ -1,4 +1,4 @@
-//! Every refusal but 6, which no call can reach, and the order of checks.
+//! Every refusal and the order of checks.
 
 use super::*;
 

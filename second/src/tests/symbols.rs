@@ -30,14 +30,6 @@ fn reduction_entries_named_in_01() {
 }
 
 #[test]
-fn longest_part_has_39_symbols() {
-    // Data of 16 AA with PB E1 have the check symbol AA.
-    let part = Wire::master_part([0x10, 0x08, 0xE1, 0x02], &[0xAA; 16]);
-    assert_eq!(part.symbols().len(), 39);
-    assert_eq!(part.symbols()[37..], [0xA9, 0x01]);
-}
-
-#[test]
 fn address_sets() {
     let all = 0..=0xFFu8;
     assert_eq!(all.clone().filter(|&a| is_master(a)).count(), 25);
