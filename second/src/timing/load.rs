@@ -103,14 +103,14 @@ fn answers() -> Load {
 }
 
 /// The most turns of stations that are awake that were found for a file: every
-/// seat taken, the masters collide, and all read the longest parts.
+/// seat taken, the masters collide, and all read parts of 16 pairs.
 fn broadcasts() -> Load {
     let masters = masters();
     let mut file = File::new("broadcasts", &masters, &SLAVES);
     file.fill(&full(&masters, |place| ([masters[place], BROADCAST, 0x50, 0x02], &LONG)))
 }
 
-/// So many stations, one of which sends the longest parts that there are: to an
+/// So many stations, one of which sends parts of 16 pairs: to an
 /// address that nobody has, and the others are silent from its ZZ on, or to all.
 fn sender(name: &'static str, stations: usize, target: u8) -> Load {
     let masters = masters();

@@ -9,7 +9,6 @@ use Rattle.wire.specs.Form.{room, bytesOf, telegramForm, answerForm}
 use Rattle.wire.specs.Load.{loadOf}
 use Rattle.station.specs.declared.phase.Sound.{Sound}
 use Rattle.station.specs.declared.phase.Sound.the-variants.{Symbol}
-use Rattle.station.specs.declared.phase.Told.{Told}
 use Rattle.station.specs.declared.phase.Told.the-variants.{Taken, Given, Answered}
 use Rattle.bus.specs.declared.bus.Bus.{Bus}
 use Rattle.bus.specs.declared.refusal.Verdict.the-variants.{Done}
