@@ -1,4 +1,5 @@
 // Addresses of the bus: class, sub-address and rank of a master, its slave address, and the role of each address (01, "Addresses").
+#![tactic(auto)]
 ghost use Rattle.std.specs.Prelude.{◌≡◌};
 ghost use Rattle.address.specs.Half.{half_index, half_at, class_of, sub_of};
 ghost use Rattle.address.specs.Master.{rank_of, master_at, is_master, slave_of};
@@ -28,6 +29,7 @@ pub enum Role {
 }
 
 // The row stands here and, the other way round, in `half_at`, and nowhere else in the code.
+#[tactic(auto, unfolding(crate::specs::Half::half_index))]
 pub fn half_index(half: u8) -> Index
     ensures { result ≡ half_index half }
 {
@@ -100,6 +102,7 @@ pub fn is_master(address: u8) -> bool
 }
 
 // The address at which a master also answers; the sum wraps at FF alone of the masters.
+#[tactic(auto, unfolding(crate::specs::Master::slave_of))]
 pub fn slave_of(master: u8) -> u8
     ensures { result ≡ slave_of master }
 {
@@ -107,6 +110,7 @@ pub fn slave_of(master: u8) -> u8
 }
 
 // What is neither a master nor one of the three exceptions is a slave.
+#[tactic(auto, unfolding(crate::specs::Role::role_of))]
 pub fn role_of(address: u8) -> Role
     ensures { result ≡ role_of address }
 {

@@ -1,4 +1,5 @@
 // Up to 32 stations on one wire: the calls of its users, the generator, a slot, and a run of slots.
+#![tactic(auto)]
 mod attach;
 pub mod bus;
 pub mod find;

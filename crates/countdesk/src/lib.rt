@@ -1,5 +1,6 @@
 // A scenario from a file descriptor, and its counts to standard output. No contract can speak of what is read and written; what is
 // counted and filled is proved in `pairs` and `tally`.
+#![tactic(auto)]
 use desk::{Got, INPUT};
 use libc::STDERR_FILENO;
 use scenario::pen::ROOM;

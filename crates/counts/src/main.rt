@@ -1,4 +1,5 @@
 // The program `counts [QQ ZZ] < SCENARIO`: how many transfers of each pair, or of one, were taken and failed (02, E9).
+#![tactic(auto)]
 use libc::STDIN_FILENO;
 use tally::ask::Question;
 

@@ -1,5 +1,6 @@
 // A scenario from a file descriptor to standard output: read, then fill, write, again until it is done. No contract can speak of
 // what is read and written; what is filled is proved in `scenario` and `printed`.
+#![tactic(auto)]
 use libc::STDOUT_FILENO;
 use scenario::fill::Printing;
 use scenario::pen::ROOM;

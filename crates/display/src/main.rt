@@ -1,4 +1,5 @@
 // The program `display < SCENARIO`: after each field the slot number and who is next (02, E7).
+#![tactic(auto)]
 use libc::STDIN_FILENO;
 
 fn main() {

@@ -1,5 +1,6 @@
 // A scenario from a file descriptor, and its log's lines to standard output. No contract can speak of what is read and written; what
 // is noted and filled is proved in `log` and `diary`.
+#![tactic(auto)]
 use desk::{Got, INPUT};
 use diary::length::{Length, PAST};
 use libc::STDERR_FILENO;

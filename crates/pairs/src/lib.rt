@@ -1,6 +1,7 @@
 // Counts by pair (02, E9): for each pair of source and destination the transfers taken and failed, in a table of 64 records that its
 // user lends. Functions under a line `// twin` have a slice or an array of structs lent on, which the borrow checker does not cover:
 // they are proved by the derivation of a twin (tools/twin/README.md). All others take records by value, and are covered.
+#![tactic(auto)]
 ghost use Rattle.std.specs.Prelude.{◌≡◌};
 ghost use Rattle.laws.specs.AtMost.{at_most};
 ghost use Rattle.pairs.specs.Counts.{counts, up, raise, in_use};

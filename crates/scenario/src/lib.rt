@@ -1,4 +1,5 @@
 // The bench's lines as bytes, and its whole output, filled into a lent buffer.
+#![tactic(auto)]
 pub mod fill;
 pub mod lines;
 pub mod pen;

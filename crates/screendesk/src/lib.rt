@@ -1,5 +1,6 @@
 // A scenario from a file descriptor, and the display's lines to standard output. No contract can speak of what is read and written;
 // what is filled is proved in `screen`.
+#![tactic(auto)]
 use desk::{Got, INPUT};
 use libc::STDERR_FILENO;
 use scenario::pen::ROOM;

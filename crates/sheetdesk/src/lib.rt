@@ -1,5 +1,6 @@
 // A sheet from a file descriptor, and its lines to standard output. No contract can speak of what is read and written; what is filled
 // is proved in `sheet`.
+#![tactic(auto)]
 use desk::{Got, INPUT};
 use libc::STDERR_FILENO;
 use scenario::pen::ROOM;

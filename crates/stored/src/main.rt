@@ -1,4 +1,5 @@
 // The stored scenarios, each named and run as the bench program runs it. Its arguments are their file names.
+#![tactic(auto)]
 use libc::STDOUT_FILENO;
 
 fn main() {

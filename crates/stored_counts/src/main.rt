@@ -1,4 +1,5 @@
 // Stored scenarios, each counted as `counts` counts it. Its arguments are alternately a question and a file name.
+#![tactic(auto)]
 use libc::STDOUT_FILENO;
 use tally::ask::Question;
 

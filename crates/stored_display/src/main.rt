@@ -1,4 +1,5 @@
 // The stored scenarios, each named and shown as `display` shows it. Its arguments are their file names.
+#![tactic(auto)]
 use libc::STDOUT_FILENO;
 
 fn main() {

@@ -1,4 +1,5 @@
 // Stored scenarios, each run as `wirelog` runs it. Its arguments are alternately a length and a file name.
+#![tactic(auto)]
 use libc::STDOUT_FILENO;
 
 fn main() {

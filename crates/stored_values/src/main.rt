@@ -1,4 +1,5 @@
 // Stored sheets, each named and run as `values` runs it. Its arguments are their file names.
+#![tactic(auto)]
 use libc::STDOUT_FILENO;
 
 fn main() {

@@ -1,4 +1,5 @@
 // The program `values < FIELDS`: codes read, values written and blocks of shares, a line each (02, E2).
+#![tactic(auto)]
 use libc::STDIN_FILENO;
 
 fn main() {

@@ -1,4 +1,5 @@
 // A scenario's fields (01, "Bench program"), its form, and the walk over its fields, one moment at a time.
+#![tactic(auto)]
 pub mod apply;
 pub mod field;
 pub mod form;

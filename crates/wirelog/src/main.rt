@@ -1,4 +1,5 @@
 // The program `wirelog LENGTH < SCENARIO`: the records that a log of so many bytes holds at the scenario's end, a line each (02, E1).
+#![tactic(auto)]
 use libc::STDIN_FILENO;
 
 fn main() {
