@@ -21,22 +21,6 @@ RECORD = re.compile(r"^\s*(?:pub )?(?:record|data) ")
 USE = re.compile(r"\buse Rattle\.(\w+\.(?:specs|proofs)\.[\w.]*\w)(?:\.\{([^}]*)\})?", re.S)
 FUNCTION = ("Proof.antt", "Answers.antt", "Invariants.antt")
 PAGES = ("README.md", "docs/DECISIONS.md", "docs/MISTAKES.md", "docs/PROMISES.md", "docs/STORED_COUNTS.md", "docs/BENCHMARKS.md", "tools/mistakes.txt")
-# Lemmas that would have the name of the function that they are about, by file: they get "_lem" after it.
-LEMMAS = {
-    "diary/proofs/LengthReads": ("is_digit",),
-    "diary/proofs/LinesOfRecords": ("lines-from",),
-    "diary/proofs/WirelogPrints": ("read_whole",),
-    "history/proofs/HeldByCalls": ("held_after",),
-    "history/proofs/Agreed": ("same_bytes", "same_lines"),
-    "promises/proofs/NextIsTheWalk": ("walk_from",),
-    "promises/proofs/TheLeast": ("rank-of",),
-    "promises/proofs/Contest/Anded": ("rank-at", "rank-of"),
-    "promises/proofs/Taken/TakenAnswer": ("hands_out",),
-    "screen/proofs/LinesReadBack": ("up-to",),
-    "value/proofs/Refused17": ("signed-of",),
-}
-
-
 def snake(name):
     if name[:1].isupper() or "·" in name:
         return name
@@ -90,21 +74,43 @@ def key(path):
 
 
 def home(module, maps):
-    """The map of the file that a path of modules is in, which may go on inside the file."""
+    """The file that a path of modules is in, which may go on inside the file."""
     steps = module.split(".")
     while steps and "/".join(steps) not in maps:
         steps.pop()
-    return maps.get("/".join(steps), {})
+    return "/".join(steps)
 
 
-def imported(text, maps):
-    """What the words of a file mean that it brings in from this repository."""
-    names = {}
+def meanings(place, text, maps):
+    """What a file declares and brings in from this repository: each name with the file that declares it."""
+    found = [(place, n) for n in maps.get(place, {})]
     for module, items in USE.findall(text):
         there = home(module, maps)
-        wanted = [i.split()[0] for i in items.split(",") if i.split()] if items else list(there)
-        names |= {n: there[n] for n in wanted if n in there}
-    return names
+        wanted = [i.split()[0] for i in items.split(",") if i.split()] if items else list(maps.get(there, {}))
+        found += [(there, n) for n in wanted if n in maps.get(there, {})]
+    return found
+
+
+def part(maps, files, fields):
+    """Two names that would fall together in some file: the lemma gets "_lem" after it."""
+    moved = True
+    while moved:
+        moved = False
+        for place, text in files.items():
+            by_new = {}
+            for there, name in meanings(place, text, maps):
+                by_new.setdefault(maps[there][name], set()).add((there, name))
+            for new, olds in by_new.items():
+                if len({name for _, name in olds}) < 2:
+                    continue
+                lemmas = sorted(o for o in olds if "/proofs/" in o[0] and not maps[o[0]][o[1]].endswith("_lem"))
+                lemmas = [o for o in lemmas if "-" in o[1]] or [o for o in lemmas if not re.search("[A-Z]", o[1])]
+                if not lemmas:
+                    print("together:", place, sorted(olds))
+                    continue
+                there, name = lemmas[0]
+                maps[there][name] = new + "_lem"
+                moved = True
 
 
 def rename_crates(top):
@@ -128,28 +134,25 @@ def main():
     top = sys.argv[1] if len(sys.argv) > 1 else "."
     rename_crates(top)
     # What each file declares, with its new name; the fields of records are known everywhere.
-    maps, fields = {}, {}
+    maps, fields, files = {}, {}, {}
     for path in texts(top, ".antt"):
         if is_of_a_function(path):
             continue
-        names, own = declarations(read(path))
-        place = key(path)
-        maps[place] = {n: snake(n) for n in names | own if snake(n) != n}
-        maps[place] |= {n: snake(n) + "_lem" for n in LEMMAS.get(place, ())}
+        text, place = read(path), key(path)
+        names, own = declarations(text)
+        maps[place] = {n: snake(n) for n in names}
+        files[place] = text
         fields |= {n: snake(n) for n in own if snake(n) != n}
-    everything = {n: snake(n) for names in maps.values() for n in names if snake(n) != n}
-    together = []
+    part(maps, files, fields)
+    everything = {n: w for names in maps.values() for n, w in names.items() if w != n and not w.endswith("_lem")} | fields
     for path in texts(top, (".antt", ".rt")):
         text = read(path)
-        names = fields | imported(text, maps) | maps.get(key(path), {})
-        words = set(WORD.findall(text))
-        for name in sorted(names):
-            if name in words and names[name] in words and names[name] not in names and path.endswith(".antt") and not is_of_a_function(path):
-                together.append(f"{path}: {name} and {names[name]}")
+        names = fields | {n: maps[there][n] for there, n in meanings(key(path), text, maps) if maps[there][n] != n}
         turned = renamed(text, names)
         if turned != text:
             write(path, turned)
-    stems = {os.path.splitext(f)[0] for _, _, files in os.walk(os.path.join(top, "crates")) for f in files if not f.endswith((".antt", ".rt"))}
+    stems = {os.path.splitext(f)[0] for _, _, names in os.walk(os.path.join(top, "crates")) for f in names if not f.endswith((".antt", ".rt"))}
+    outside = {n: w for n, w in everything.items() if n not in stems}
     for path in texts(top, ".edit"):
         write(path, renamed(read(path), everything))
     for page in PAGES:
@@ -157,13 +160,10 @@ def main():
         if os.path.exists(path):
             text = read(path)
             if page.endswith(".md"):
-                outside = {n: w for n, w in everything.items() if n not in stems}
                 turned = re.sub(r"`[^`\n]+`", lambda m: renamed(m.group(0), outside), text)
             else:
                 turned = renamed(text, everything)
             write(path, turned)
-    for line in together:
-        print("together:", line)
 
 
 main()

@@ -7,7 +7,7 @@ ghost use Rattle.ranks.specs.Bits.{bit_of, with_rank, least_of};
 use address::Rank;
 
 // The master of the least rank, if there is one at all.
-#[derive(Drop)]
+#[derive(Clone, Copy)]
 pub enum Next {
     Master(u8),
     Nobody,

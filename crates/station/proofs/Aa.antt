@@ -23,13 +23,13 @@ pub data NoSyn : Sound → Type 0 where
   symbol : {b : ℕ} → (kind_of b ≡ Syn → ⊥) → NoSyn (Symbol b)
 
 -- a station tells the two apart
-pub heard_aa : (s : Station) (b : ℕ) → kind_of b ≡ Syn → hears s (Symbol b) ≡ hear_syn s
+pub heard_aa_lem : (s : Station) (b : ℕ) → kind_of b ≡ Syn → hears s (Symbol b) ≡ hear_syn s
 unfolding hears
-heard_aa s b e = rw (eq-eqb b syn ((kind_syn b).0 e))
+heard_aa_lem s b e = rw (eq-eqb b syn ((kind_syn b).0 e))
 
-pub heard_other : (s : Station) (b : ℕ) → (kind_of b ≡ Syn → ⊥) → hears s (Symbol b) ≡ hear_symbol s b
+pub heard_other_lem : (s : Station) (b : ℕ) → (kind_of b ≡ Syn → ⊥) → hears s (Symbol b) ≡ hear_symbol s b
 unfolding hears
-heard_other s b n = rw (ne_eqb b syn (λ e. n ((kind_syn b).1 e)))
+heard_other_lem s b n = rw (ne_eqb b syn (λ e. n ((kind_syn b).1 e)))
 
 -- a fact about a sound is shown of AA, and of every other
 pub by_sound : {P : Type 0} (h : Sound) → (IsSyn h → P) → (NoSyn h → P) → P

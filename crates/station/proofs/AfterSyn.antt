@@ -26,7 +26,7 @@ use Rattle.station.specs.Table.{left, released, heard_aa, row}
 use Rattle.station.specs.Turn.{goes}
 use Rattle.station.specs.Admission.{admits, restarted, bids}
 use Rattle.station.specs.Hear.{cut, hear_syn, hears}
-use Rattle.station.proofs.Aa.{IsSyn, aa, heard_aa}
+use Rattle.station.proofs.Aa.{IsSyn, aa, heard_aa_lem}
 
 -- what AA makes of a station
 pub record AfterSyn (s : Station) (after : Station) : Type 0 where
@@ -139,11 +139,11 @@ after_of s =
 
 -- after an AA every station reads from the start; it owns nothing, marks go out, and `admits` says who may bid
 pub after_syn : (s : Station) {h : Sound} → IsSyn h → AfterSyn s (hears s h).station
-after_syn s (aa {b} e) = rw (heard_aa s b e) (after_of s)
+after_syn s (aa {b} e) = rw (heard_aa_lem s b e) (after_of s)
 
 -- what it is told is a function of its phase
 pub syn_told : (s : Station) {h : Sound} → IsSyn h → (hears s h).told ≡ told_by_syn s.phase
-syn_told s (aa {b} e) = rw (heard_aa s b e) (told_of s)
+syn_told s (aa {b} e) = rw (heard_aa_lem s b e) (told_of s)
 
 rows : (own : ℕ) (part : Telegram) (p : Phase) → SynTells own part p (told_by_syn p) (events_as (told_by_syn p) own part)
 rows own part Silent = silent_station

@@ -104,8 +104,8 @@ owner_drops Owing o = refl
 owner_drops Releasing o = refl
 
 -- the oldest telegram leaves the outbox exactly where free, or failed and free, is told
-pub outbox_after : (s : Station) (h : Sound) → (hears s h).station.outbox ≡ outbox_after (hears s h).told s.outbox
-outbox_after s h = by_sound h by_syn by_slot
+pub outbox_after_lem : (s : Station) (h : Sound) → (hears s h).station.outbox ≡ outbox_after (hears s h).told s.outbox
+outbox_after_lem s h = by_sound h by_syn by_slot
   where
     by_syn : IsSyn h → (hears s h).station.outbox ≡ outbox_after (hears s h).told s.outbox
     by_syn i = rw (syn_told s i) ((after_syn s i).outbox ∙ owner_drops s.phase s.outbox)

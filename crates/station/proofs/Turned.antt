@@ -34,7 +34,7 @@ use Rattle.station.specs.Turn.{goes, with_part}
 use Rattle.station.specs.Addressed.{for_all, answered, is_own}
 use Rattle.station.specs.Table.{reader_fails, whole, addressed, read_on, read_on_at, reads_as, reads, handed_out, judged_taken, read_again, judges, left, released, sender_fails, hear_bid, sent_whole, sent, hear_own_as, hear_own, taken, nak_heard, hear_reply, hear_reading, heard_nothing, heard_other, row, owner_fails}
 use Rattle.station.specs.Hear.{hear_quiet, hear_symbol, hears}
-use Rattle.station.proofs.Aa.{NoSyn, quiet, symbol, heard_other}
+use Rattle.station.proofs.Aa.{NoSyn, quiet, symbol, heard_other_lem}
 use Rattle.station.proofs.Moves.{Moves, silent_on, owing_on, reading_waits, awaiting_waits, acknowledges, leaves_released, leaves_disturbed, stops_disturbed, wins, reads_on, not_for_it, reads_in_vain, breaks_answer, gives_broadcast, reads_whole, sends_on, takes_broadcast, sends_whole, awaits_answer, ends_taken, answer_taken, sends_again, ends_failed, answer_failed, gives_and_owes, gives, gives_answer, reads_again, gives_nothing, answer_lost}
 
 -- an owner that leaves drops its telegram, and nothing else changes the outbox
@@ -299,7 +299,7 @@ symbol_slot s b Releasing = noted_slot s Releasing b (released_turned (noted s) 
 pub slot : (s : Station) {h : Sound} → NoSyn h → Slot s s.phase h (hears s h)
 unfolding hears hear_quiet hear_symbol
 slot s quiet = record { entering = over_now s; enters = on_quiet; turned = quiet_turned s s.phase }
-slot s (symbol {b} n) = rw (heard_other s b n) (symbol_slot s b s.phase)
+slot s (symbol {b} n) = rw (heard_other_lem s b n) (symbol_slot s b s.phase)
 
 -- its row
 pub moves_of : (s : Station) {h : Sound} → NoSyn h → Moves (bids s) s.address s.part s.phase h (hears s h).told (hears s h).station.phase

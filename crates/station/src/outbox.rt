@@ -7,14 +7,14 @@ use crate::station::Station;
 use wire::form::Wire;
 use wire::part::{Load, Telegram};
 
-#[derive(Drop)]
+#[derive(Clone, Copy)]
 pub struct Outbox {
     pub slots: [Telegram; Station::QUEUE_DEPTH],
     pub held: usize,
 }
 
 // The outbox with the telegram behind the others, or unchanged where it is full.
-#[derive(Drop)]
+#[derive(Clone, Copy)]
 pub struct Accepted {
     pub taken: bool,
     pub outbox: Outbox,

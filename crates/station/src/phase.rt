@@ -8,13 +8,13 @@ use wire::part::Part;
 use wire::reader::Cursor;
 
 // Counted for each part by itself.
-#[derive(Drop)]
+#[derive(Clone, Copy)]
 pub enum Attempt {
     First,
     Again,
 }
 
-#[derive(Drop)]
+#[derive(Clone, Copy)]
 pub enum Phase {
     Silent,
     // The owner reads an answer, any other station a master part.
@@ -48,7 +48,7 @@ pub enum Phase {
 }
 
 // What was heard since the last AA.
-#[derive(Drop)]
+#[derive(Clone, Copy)]
 pub enum Since {
     Nothing,
     OneSymbol,
@@ -57,14 +57,14 @@ pub enum Since {
 }
 
 // What one station says in a slot, and what all hear.
-#[derive(Drop)]
+#[derive(Clone, Copy)]
 pub enum Sound {
     Quiet,
     Symbol(u8),
 }
 
 // Failed 1 to 5.
-#[derive(Drop)]
+#[derive(Clone, Copy)]
 pub enum Failure {
     // 1: anything but its own symbol was heard.
     Disturbed,
@@ -97,7 +97,7 @@ impl Failure {
 }
 
 // What a station is told in a slot. The part that it speaks of is the station's own.
-#[derive(Drop)]
+#[derive(Clone, Copy)]
 pub enum Told {
     Silence,
     Owns,

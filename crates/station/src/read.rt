@@ -15,7 +15,7 @@ use wire::part::Part;
 use wire::reader::{Cursor, Place};
 
 // The phase that a reader goes into, and what it is told.
-#[derive(Drop)]
+#[derive(Clone, Copy)]
 pub struct Next {
     pub phase: Phase,
     pub told: Told,

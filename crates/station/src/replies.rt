@@ -6,21 +6,21 @@ use crate::station::Station;
 use laws::Found;
 use wire::part::Load;
 
-#[derive(Drop)]
+#[derive(Clone, Copy)]
 pub struct Reply {
     pub pb: u8,
     pub sb: u8,
     pub load: Load,
 }
 
-#[derive(Drop)]
+#[derive(Clone, Copy)]
 pub struct ReplyBook {
     pub entries: [Reply; Station::REPLY_ENTRIES],
     pub held: usize,
 }
 
 // The book with the reply written, or unchanged where there is no room.
-#[derive(Drop)]
+#[derive(Clone, Copy)]
 pub struct Written {
     pub taken: bool,
     pub book: ReplyBook,

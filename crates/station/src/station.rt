@@ -8,7 +8,7 @@ use crate::replies::ReplyBook;
 use wire::form::Wire;
 use wire::part::{Part, Telegram};
 
-#[derive(Drop)]
+#[derive(Clone, Copy)]
 pub struct Station {
     // The address that it was attached with, and whether that is a master address.
     pub address: u8,
@@ -26,7 +26,7 @@ pub struct Station {
 }
 
 // The station after a slot, and what it is told.
-#[derive(Drop)]
+#[derive(Clone, Copy)]
 pub struct Turn {
     // First: behind the large station it makes a slot up to 18 percent slower.
     pub told: Told,

@@ -5,7 +5,7 @@ ghost use Rattle.value.specs.Block.{shows, any_shows, sum_of, shares_of, no_shar
 use crate::read::{Reading, percent, read_share};
 
 // The shares in percent; behind the last one stand zeros.
-#[derive(Drop)]
+#[derive(Clone, Copy)]
 pub struct Shares {
     pub count: usize,
     pub percents: [f32; Shares::MOST],
@@ -15,7 +15,7 @@ impl Shares {
     pub const MOST: usize = 8;
 }
 
-#[derive(Drop)]
+#[derive(Clone, Copy)]
 pub enum Verdict {
     Accepted,
     // 17: no share at all, more than 8, or one whose code has no value.
@@ -27,14 +27,14 @@ pub enum Verdict {
 }
 
 // A block that is refused gives no shares.
-#[derive(Drop)]
+#[derive(Clone, Copy)]
 pub struct Block {
     pub verdict: Verdict,
     pub shares: Shares,
 }
 
 // What can be wrong with a share.
-#[derive(Drop)]
+#[derive(Clone, Copy)]
 enum Fault {
     // No value has its code.
     Valueless,

@@ -5,7 +5,7 @@ ghost use Rattle.value.specs.Read.{read_bcd, percent_of, read_share, read_signed
 use crate::steps::steps;
 use crate::value::{DataType, Value};
 
-#[derive(Drop)]
+#[derive(Clone, Copy)]
 pub enum Reading {
     Of(Value),
     // 17: no value of this type has that code.

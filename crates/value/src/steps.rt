@@ -3,7 +3,7 @@ ghost use Rattle.std.specs.Prelude.{◌≡◌};
 ghost use Rattle.value.specs.Steps.{steps_of, size_of, count_of};
 
 // How many steps a float is, with its sign.
-#[derive(Drop)]
+#[derive(Clone, Copy)]
 pub enum Count {
     Up(u32),
     Down(u32),
@@ -11,7 +11,7 @@ pub enum Count {
 }
 
 // How many steps a float that is not below zero is.
-#[derive(Drop)]
+#[derive(Clone, Copy)]
 enum Size {
     Steps(u32),
     NoSteps,

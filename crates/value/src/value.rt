@@ -2,7 +2,7 @@
 ghost use Rattle.std.specs.Prelude.{◌≡◌};
 ghost use Rattle.value.specs.Value.{is_gone};
 
-#[derive(Drop)]
+#[derive(Clone, Copy)]
 pub enum Value {
     Whole(u32),
     Percent(f32),
@@ -23,7 +23,7 @@ impl Value {
     }
 }
 
-#[derive(Drop)]
+#[derive(Clone, Copy)]
 pub enum DataType {
     // One byte, two decimal digits.
     Bcd,

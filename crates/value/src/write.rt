@@ -6,7 +6,7 @@ use crate::steps;
 use crate::steps::Count;
 use crate::value::{DataType, Value};
 
-#[derive(Drop)]
+#[derive(Clone, Copy)]
 pub enum Code {
     One(u8),
     // Low byte first.

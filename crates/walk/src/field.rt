@@ -2,7 +2,7 @@
 ghost use Rattle.std.specs.Prelude.{◌≡◌, ◌+◌, ◌<◌, ◌^◌};
 ghost use Rattle.walk.specs.Field.{byte_at, pair_at, reply_value, queue_value, run_value, value_of, field_at, is_bad};
 
-#[derive(Drop)]
+#[derive(Clone, Copy)]
 pub enum Field {
     // 01 master address; 02 slave address.
     Master(u8),
@@ -30,7 +30,7 @@ pub enum Field {
 }
 
 // A field, and where the next one begins.
-#[derive(Drop)]
+#[derive(Clone, Copy)]
 pub struct Placed {
     pub field: Field,
     pub next: usize,

@@ -4,7 +4,7 @@ ghost use Rattle.walk.specs.Form.{form_of};
 
 use crate::field;
 
-#[derive(Drop)]
+#[derive(Clone, Copy)]
 pub enum Form {
     Good,
     // 14, with the offset of its tag.

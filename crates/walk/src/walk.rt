@@ -11,7 +11,7 @@ use bus::refusal::Verdict;
 use station::phase::Sound;
 
 // How far a scenario has gone.
-#[derive(Drop)]
+#[derive(Clone, Copy)]
 pub struct Place {
     // Where the next field begins.
     pub at: usize,
@@ -20,7 +20,7 @@ pub struct Place {
     pub left: u32,
 }
 
-#[derive(Drop)]
+#[derive(Clone, Copy)]
 pub enum Moment {
     // A call was made.
     Called(Verdict),
@@ -33,7 +33,7 @@ pub enum Moment {
 }
 
 // A moment, the bus as it then stands, and how far the scenario has gone.
-#[derive(Drop)]
+#[derive(Clone, Copy)]
 pub struct Step {
     pub bus: Bus,
     pub place: Place,
@@ -41,7 +41,7 @@ pub struct Step {
 }
 
 // What is next: a call, undisturbed slots, a slot heard as given, a field's end, the scenario's end.
-#[derive(Drop)]
+#[derive(Clone, Copy)]
 pub enum Task {
     Call(Field),
     Slots(u32),
@@ -51,7 +51,7 @@ pub enum Task {
 }
 
 // What is next, and where its field ends.
-#[derive(Drop)]
+#[derive(Clone, Copy)]
 pub struct Ahead {
     pub task: Task,
     pub to: usize,

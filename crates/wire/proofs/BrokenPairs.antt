@@ -1,7 +1,7 @@
 -- Which pair was broken (02, E6): what a reader says of it is there, among the symbols that it was given. Assumes nothing.
 use Rattle.std.proofs.Common.{◌≡◌, ℕ, List, [], ◌∷◌, ◌++◌, sym, append_assoc}
 use Rattle.wire.specs.BrokenPairs.{StopsAt}
-use Rattle.wire.specs.Reader.{start_of, more}
+use Rattle.wire.specs.Reader.{start_of, more, read_one}
 use Rattle.wire.specs.Reading.{Sixteen, read_all}
 use Rattle.wire.specs.declared.pair.WrongPair.{WrongPair}
 use Rattle.wire.specs.declared.part.Part.{Part}
@@ -20,7 +20,7 @@ unfolding read_all more
 from w x [] h e = clash (cc)
 from w x {c} {p} {zs} (s ∷ ss) h e =
     by_first c p s ss (λ r. r.step.outcome ≡ BrokenPair x → StopsAt w (zs ++ (s ∷ ss)) x r)
-    (λ m i. rw (append_assoc zs (s ∷ []) ss) at (from w x ss (step_more h s m) i))
+    (λ m i. rw (append_assoc zs (s ∷ []) ss) at (from w x {c = (read_one c p s).cursor} {p = (read_one c p s).part} {zs = zs ++ (s ∷ [])} ss (step_more h s m) i))
     (λ n i. record { upto = zs ++ (s ∷ []); all = sym (append_assoc zs (s ∷ []) ss); broken = step_broken h s i })
     e
 

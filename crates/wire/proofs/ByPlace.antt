@@ -142,11 +142,11 @@ module _ (at register nn : ℕ) (p : Telegram) (xs : List ℕ) (s : ℕ) (counts
   data_step w read opened (Broken y) e k l x r = broken w read opened y k (omega arith) x e
 
   -- a symbol of the CRC
-  crc_step : (w : Part) (opened : Bool) (u : Undone) → undo opened at s ≡ u → Counted w nn p
+  crc_step_lem : (w : Part) (opened : Bool) (u : Undone) → undo opened at s ≡ u → Counted w nn p
       → xs ≡ heard w p nn ++ pending opened → register ≡ crc_of (heard w p nn)
       → After w (xs ++ (s ∷ [])) (crc_as u (here Crc opened) p)
   unfolding more ended
-  crc_step w opened (Byte b) e k x r =
+  crc_step_lem w opened (Byte b) e k x r =
       let all = heard_all w nn p k array in
       record {
         check = b;
@@ -157,10 +157,10 @@ module _ (at register nn : ℕ) (p : Telegram) (xs : List ℕ) (s : ℕ) (counts
         array = array;
         clear = all_clear;
       }
-  crc_step w opened Opens e k x r =
+  crc_step_lem w opened Opens e k x r =
       moved w Crc true register nn p array (at_crc k (joined (heard w p nn) (pending true) opened x (undo_opens opened at s e)) r)
-  crc_step w opened Ends e k x r = tt
-  crc_step w opened (Broken y) e k x r = broken w nn opened y k (omega arith) x e
+  crc_step_lem w opened Ends e k x r = tt
+  crc_step_lem w opened (Broken y) e k x r = broken w nn opened y k (omega arith) x e
 
   -- a symbol that is neither A9 nor AA
   usable : s ≢ 0xA9 → Usable s
@@ -196,4 +196,4 @@ module _ (at register nn : ℕ) (p : Telegram) (xs : List ℕ) (s : ℕ) (counts
       (nn_heard w e) (fed r)))
       (λ t. tt)
   place_step w place opened k n c (at_data {read = read} q l e r) = data_step w read opened (undo opened at s) refl q l e r
-  place_step w place opened k n c (at_crc q e r) = crc_step w opened (undo opened at s) refl q e r
+  place_step w place opened k n c (at_crc q e r) = crc_step_lem w opened (undo opened at s) refl q e r

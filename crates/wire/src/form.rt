@@ -8,7 +8,7 @@ use crate::symbol::Kind;
 use crate::{part, symbol};
 
 // The symbols that go out: the first `len` of `bytes`.
-#[derive(Drop)]
+#[derive(Clone, Copy)]
 pub struct Wire {
     pub bytes: [u8; Wire::ROOM],
     pub len: usize,

@@ -6,7 +6,7 @@ use crate::symbol;
 use crate::symbol::Kind;
 
 // A9 with neither 00, 01 nor AA behind it (02, E6).
-#[derive(Drop)]
+#[derive(Clone, Copy)]
 pub struct WrongPair {
     // Where its A9 stands, in wire symbols from the part's first, which is 0.
     pub position: u8,
@@ -14,7 +14,7 @@ pub struct WrongPair {
     pub symbol: u8,
 }
 
-#[derive(Drop)]
+#[derive(Clone, Copy)]
 pub enum Undone {
     Byte(u8),
     Opens,
@@ -45,6 +45,7 @@ fn first(symbol: u8) -> Undone
     }
 }
 
+#[tactic(auto, unfolding(crate::specs::Pair::undo_second))]
 fn second(at: u8, symbol: u8) -> Undone
     ensures { result ≡ undo_second at symbol }
 {

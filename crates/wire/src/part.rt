@@ -4,21 +4,21 @@ ghost use Rattle.wire.specs.Load.{empty_load, fitting, load_of};
 ghost use Rattle.wire.specs.Part.{is_master_part, is_answer_part};
 
 // Which part of a transfer: the master sends the one and reads the other.
-#[derive(Drop)]
+#[derive(Clone, Copy)]
 pub enum Part {
     MasterPart,
     AnswerPart,
 }
 
 // What a part carries: the first `nn` of `bytes`.
-#[derive(Drop)]
+#[derive(Clone, Copy)]
 pub struct Load {
     pub nn: u8,
     pub bytes: [u8; Load::MOST],
 }
 
 // A master part. An answer is a load alone.
-#[derive(Drop)]
+#[derive(Clone, Copy)]
 pub struct Telegram {
     pub qq: u8,
     pub zz: u8,

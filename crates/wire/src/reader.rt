@@ -8,7 +8,7 @@ use crate::symbol::Kind;
 use crate::{pair, symbol};
 
 // Which symbol of the part comes next. Data counts the bytes already read.
-#[derive(Drop)]
+#[derive(Clone, Copy)]
 pub enum Place {
     Qq,
     Zz,
@@ -21,7 +21,7 @@ pub enum Place {
 
 // How far a part has been read: symbols heard since its first, what comes next, whether an A9 waits for its second
 // symbol, the CRC's register, and NN.
-#[derive(Drop)]
+#[derive(Clone, Copy)]
 pub struct Cursor {
     pub at: u8,
     pub place: Place,
@@ -31,7 +31,7 @@ pub struct Cursor {
 }
 
 // How a symbol left the reading.
-#[derive(Drop)]
+#[derive(Clone, Copy)]
 pub enum Outcome {
     // More symbols belong to the part.
     More,
@@ -50,7 +50,7 @@ pub enum Outcome {
 }
 
 // The cursor for the next symbol, and the part as far as it is read.
-#[derive(Drop)]
+#[derive(Clone, Copy)]
 pub struct Step {
     pub outcome: Outcome,
     pub cursor: Cursor,

@@ -2,7 +2,7 @@
 ghost use Rattle.std.specs.Prelude.{◌≡◌};
 ghost use Rattle.wire.specs.Symbol.{kind_of, is_escape, is_count};
 
-#[derive(Drop)]
+#[derive(Clone, Copy)]
 pub enum Kind {
     Syn,
     Escape,
@@ -10,6 +10,7 @@ pub enum Kind {
     Plain,
 }
 
+#[tactic(auto, unfolding(crate::specs::Symbol::kind_of))]
 pub fn kind_of(symbol: u8) -> Kind
     ensures { result ≡ kind_of symbol }
 {

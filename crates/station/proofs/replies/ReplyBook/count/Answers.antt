@@ -1,0 +1,8 @@
+-- `station::replies::ReplyBook::count` meets its contract.
+use borrow.Author.Rules.{rules}
+use Rattle.station.specs.Replies.{count_in}
+use Rattle.station.proofs.replies.ReplyBook.count.Goals as goal
+
+pub returns : goal.returns
+unfolding count_in
+returns c = c.at_most.ensures

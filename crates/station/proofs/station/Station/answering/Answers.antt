@@ -1,0 +1,12 @@
+-- `station::station::Station::answering` meets its contract.
+use Rattle.station.specs.Station.{answering}
+use borrow.Author.Rules.{rules}
+use Rattle.station.proofs.station.Station.answering.Goals as goal
+
+pub returns : goal.returns
+unfolding answering
+returns c =
+    simp (
+      c.answer_form-out.ensures,
+      c.answer-load.ensures,
+    )

@@ -1,0 +1,14 @@
+-- `station::station::Station::fresh` meets its contract.
+use Rattle.station.specs.Station.{fresh}
+use borrow.Author.Rules.{rules}
+use Rattle.station.proofs.station.Station.fresh.Goals as goal
+
+pub returns : goal.returns
+unfolding fresh
+returns c =
+    simp (
+      c.empty-replies.ensures,
+      c.empty-out.ensures,
+      c.oldest-part.ensures,
+      c.empty-outbox.ensures,
+    )

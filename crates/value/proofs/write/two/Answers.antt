@@ -1,0 +1,8 @@
+-- `value::write::two` meets its contract.
+use Rattle.std.proofs.Common.{refl, rules}
+use Rattle.value.specs.Write.{two}
+use Rattle.value.proofs.write.two.Goals as goal
+
+pub returns : goal.returns
+unfolding two
+returns c = refl
