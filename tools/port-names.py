@@ -52,15 +52,16 @@ def is_of_a_function(path):
 
 def declarations(text):
     """The names that a file declares, and among them the fields of its records."""
-    names, fields, inside = set(), set(), None
+    names, fields, record = set(), set(), None
     for line in text.split("\n"):
+        indent = len(line) - len(line.lstrip())
+        if line.strip() and record is not None and indent <= record:
+            record = None
         if RECORD.match(line):
-            inside = "record" if " record " in " " + line else "data"
-        elif line and not line[0].isspace():
-            inside = None
+            record = indent if " record " in " " + line else None
         found = DECLARED.match(line)
         if found and found.group(3) not in ("let", "in", "use"):
-            (fields if inside == "record" and found.group(1) else names).add(found.group(3))
+            (names if record is None else fields).add(found.group(3))
     return names, fields
 
 

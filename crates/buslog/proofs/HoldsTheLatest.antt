@@ -19,7 +19,7 @@ use Rattle.buslog.specs.Roomy as roomy
 use Rattle.buslog.specs.Slots.{noted_slots}
 use Rattle.buslog.specs.Sound.{Sound}
 use Rattle.buslog.proofs.Formed.{Short28, longest_record}
-use Rattle.buslog.proofs.Limits.{within_limits, sound_fresh, sound_emptied, own_buffer}
+use Rattle.buslog.proofs.Limits.{within_limits_lem, sound_fresh, sound_emptied, own_buffer}
 use Rattle.buslog.proofs.Longest.{joined_append, goes_oldest_first, run_is_longest, nothing_goes_while_there_is_room, newest_is_held}
 use Rattle.buslog.proofs.OldestGoWhole.{latest_noted}
 use Rattle.buslog.proofs.Holds.{Holds}
@@ -123,7 +123,7 @@ pub newest_held : (bytes : List ℕ) (bs : List Bus) → within_limits (length b
 unfolding joined
 newest_held bytes bs w rs ls l e =
     let short : length (record_of l) ≤ 28 = every_last ls l (rw e at (longest_of_all bs rs)) in
-    let run = newest_is_held (length bytes) ls l (omega (arith, (within_limits (length bytes) w).0)) in
+    let run = newest_is_held (length bytes) ls l (omega (arith, (within_limits_lem (length bytes) w).0)) in
     let one : joined (l ∷ []) ≡ record_of l = append-nil (record_of l) in (
       run.0,
       log_holds_the_latest bytes bs w rs ∙ ap (λ (v : List Line). joined (longest_run (length bytes) v)) e ∙ ap (λ (v : List Line). joined v) run.1

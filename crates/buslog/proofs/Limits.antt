@@ -16,9 +16,9 @@ pub limits_within : (n : ℕ) → 64 ≤ n → n ≤ 65536 → within_limits n �
 unfolding within_limits
 limits_within n h g = rw (le-ltb n 64 h, le-ltb 65536 n g)
 
-pub within_limits : (n : ℕ) → within_limits n ≡ true → (64 ≤ n) × (n ≤ 65536)
+pub within_limits_lem : (n : ℕ) → within_limits n ≡ true → (64 ≤ n) × (n ≤ 65536)
 unfolding within_limits
-within_limits n w = go (ltb n 64) (ltb 65536 n) refl refl w
+within_limits_lem n w = go (ltb n 64) (ltb 65536 n) refl refl w
   where
     go : (t u : Bool) → ltb n 64 ≡ t → ltb 65536 n ≡ u → cond t false (cond u false true) ≡ true → (64 ≤ n) × (n ≤ 65536)
     go true u e f w = absurd (false≢true w)
@@ -28,7 +28,7 @@ within_limits n w = go (ltb n 64) (ltb 65536 n) refl refl w
 -- a log that was set up for its buffer
 pub sound_fresh : (bytes : List ℕ) → within_limits (length bytes) ≡ true → Sound (ring bytes (fresh_for (length bytes)))
 sound_fresh bytes w =
-    let l = within_limits (length bytes) w in
+    let l = within_limits_lem (length bytes) w in
     record { own = refl; least = l.0; greatest = l.1; within = omega arith; fits = omega arith }
 
 -- a log that was emptied
@@ -63,7 +63,7 @@ own_is_sound d o =
     go true true true false p q r t o = absurd (false≢true o)
     go true true true true p q r t o =
         let own : d.log.room ≡ n = eqb-true d.log.room n p in
-        let limits = within_limits n q in
+        let limits = within_limits_lem n q in
         record {
           own = own;
           least = omega (arith, limits.0);

@@ -24,9 +24,9 @@ use Rattle.buslog.proofs.Turned.{byte_held}
 -- ---- the oldest record
 
 -- its size is its length
-pub size_of_oldest : (d : Ring) (room : ℕ) (l : Line) (rest : List ℕ) → Holds d room (record_of l ++ rest) → size_of_oldest d ≡ length (record_of l)
+pub size_of_oldest_lem : (d : Ring) (room : ℕ) (l : Line) (rest : List ℕ) → Holds d room (record_of l ++ rest) → size_of_oldest d ≡ length (record_of l)
 unfolding size_of_oldest record_of
-size_of_oldest d room l rest h =
+size_of_oldest_lem d room l rest h =
     let r = record_of l ++ rest in
     let long : length (record_of l) ≤ d.log.held = omega (arith, held_count h, length-append (record_of l) rest) in
     let high : byte_at d 1 ≡ get_or r 1 0 =
@@ -40,7 +40,7 @@ size_of_oldest d room l rest h =
 pub oldest_goes_whole : (d : Ring) (room : ℕ) (l : Line) (ls : List Line) → Holds d room (joined (l ∷ ls))
     → Holds (ring d.bytes (without d.log (size_of_oldest d))) room (joined ls)
 unfolding joined
-oldest_goes_whole d room l ls h = rw (size_of_oldest d room l (joined ls) h) (goes d room (record_of l) (joined ls) h)
+oldest_goes_whole d room l ls h = rw (size_of_oldest_lem d room l (joined ls) h) (goes d room (record_of l) (joined ls) h)
 
 -- each record has a byte at least, so there are no more records than bytes
 pub lines_at_most : (ls : List Line) → length ls ≤ length (joined ls)

@@ -20,7 +20,7 @@ use Rattle.buslog.specs.Sound.{Sound}
 use Rattle.buslog.proofs.Formed.{length_record}
 use Rattle.buslog.proofs.Limits.{own_buffer}
 use Rattle.buslog.proofs.Longest.{joined_append, length_first}
-use Rattle.buslog.proofs.OldestGoWhole.{size_of_oldest, oldest_goes_whole, lines_at_most}
+use Rattle.buslog.proofs.OldestGoWhole.{size_of_oldest_lem, oldest_goes_whole, lines_at_most}
 use Rattle.buslog.proofs.Holds.{Holds, held_count}
 use Rattle.buslog.proofs.Turned.{front_held}
 
@@ -86,7 +86,7 @@ bytes_fitting zero n d room (l ∷ ls) h f = absurd (omega arith)
 bytes_fitting (suc k) n d room [] h f = rw (nothing_held h)
 bytes_fitting (suc k) n d room (l ∷ ls) h f =
     let size = length (record_of l) in
-    let whole = size_of_oldest d room l (joined ls) h in
+    let whole = size_of_oldest_lem d room l (joined ls) h in
     let further = bytes_fitting k (n - size) (ring d.bytes (without d.log (size_of_oldest d))) room ls (oldest_goes_whole d room l ls h) (omega arith) in
     rw (lt-ltb 0 d.log.held (something_held l ls h), whole)
     (go (leb size n) (fitting_from k d.bytes (n - size) (without d.log size)) (rw whole at further))
@@ -148,14 +148,14 @@ module _ (d : Ring) (xs ys : List Line) (l : Line) (out : List ℕ) (s : Sound d
       → record_into d (length xs) out ≡ copying (record_of l ++ drop (length (record_of l)) out) (record { used = length (record_of l); said = Done })
   unfolding record_into oldest_into rest joined
   kth_record f =
-      rw (own_buffer d s, ne_eqb rest.log.held 0 some_there, size_of_oldest rest d.log.room l (joined ys) from_kth, le-leb (length (record_of l)) (length out) f)
+      rw (own_buffer d s, ne_eqb rest.log.held 0 some_there, size_of_oldest_lem rest d.log.room l (joined ys) from_kth, le-leb (length (record_of l)) (length out) f)
       (copies rest (record_of l) (joined ys) out from_kth.sound from_kth.bytes f)
 
   -- where it does not fit, nothing is copied
   pub kth_no_room : length out < length (record_of l) → record_into d (length xs) out ≡ copying out (saying NoRoom)
   unfolding record_into oldest_into rest joined
   kth_no_room f =
-      rw (own_buffer d s, ne_eqb rest.log.held 0 some_there, size_of_oldest rest d.log.room l (joined ys) from_kth, lt-leb (length (record_of l)) (length out) f)
+      rw (own_buffer d s, ne_eqb rest.log.held 0 some_there, size_of_oldest_lem rest d.log.room l (joined ys) from_kth, lt-leb (length (record_of l)) (length out) f)
 
 -- where there are not so many, nothing is copied
 pub kth_none : (d : Ring) (ls : List Line) (k : ℕ) (out : List ℕ) → Sound d → held_bytes d ≡ joined ls → length ls ≤ k

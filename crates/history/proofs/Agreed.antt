@@ -39,15 +39,15 @@ use Rattle.history.specs.Word.{bit_of, bit_heard, Heard, quiet, anded}
 use Rattle.history.proofs.Anded.{word_is_the_and}
 use Rattle.history.proofs.AsObserved.{SeatObserved, Followed, seat_says, seat_tells, seat_hands, seat_lines, call_followed, on_followed}
 use Rattle.history.proofs.Generates.{call_counts, counted_says, none}
-use Rattle.history.proofs.HeldByCalls.{who_of, held_after_lem, answers_after, Account, account_call, on_account}
+use Rattle.history.proofs.HeldByCalls.{who_of, held_after_lem, answers_after_lem, Account, account_call, on_account}
 
 -- ---- what is equal is the same
 
 both : (a b : Bool) → a ≡ true → b ≡ true → (a && b) ≡ true
 both a b p q = rw (p, q)
 
-same_sound : (x y : Sound) → x ≡ y → same_sound x y ≡ true
-same_sound x y e = subst (λ (z : Sound). same_sound x z ≡ true) e (self x)
+same_sound_lem : (x y : Sound) → x ≡ y → same_sound x y ≡ true
+same_sound_lem x y e = subst (λ (z : Sound). same_sound x z ≡ true) e (self x)
   where
     self : (x : Sound) → same_sound x x ≡ true
     self Quiet = refl
@@ -57,8 +57,8 @@ self_pair : (x : Option WrongPair) → same_pair x x ≡ true
 self_pair option.none = refl
 self_pair (option.some x) = both (eqb x.position x.position) (eqb x.symbol x.symbol) (eq-eqb x.position x.position refl) (eq-eqb x.symbol x.symbol refl)
 
-same_report : (x y : Report) → x ≡ y → same_report x y ≡ true
-same_report x y e =
+same_report_lem : (x y : Report) → x ≡ y → same_report x y ≡ true
+same_report_lem x y e =
     subst (λ (z : Report). same_report x z ≡ true) e
     (both (eqb (word_in x) (word_in x) && eqb (number_in x) (number_in x)) (same_pair (pair_in x) (pair_in x))
     (both (eqb (word_in x) (word_in x)) (eqb (number_in x) (number_in x)) (eq-eqb (word_in x) (word_in x) refl) (eq-eqb (number_in x) (number_in x) refl))
@@ -78,8 +78,8 @@ self_telegrams (t ∷ ts) =
     (both (same_bytes (head_of t) (head_of t)) (same_bytes (bytes_of t.load) (bytes_of t.load)) (self_bytes (head_of t)) (self_bytes (bytes_of t.load)))
     (self_telegrams ts)
 
-same_telegrams : (ts us : List Telegram) → ts ≡ us → same_telegrams ts us ≡ true
-same_telegrams ts us e = subst (λ (vs : List Telegram). same_telegrams ts vs ≡ true) e (self_telegrams ts)
+same_telegrams_lem : (ts us : List Telegram) → ts ≡ us → same_telegrams ts us ≡ true
+same_telegrams_lem ts us e = subst (λ (vs : List Telegram). same_telegrams ts vs ≡ true) e (self_telegrams ts)
 
 self_lines : (es : List Event) → same_lines es es ≡ true
 self_lines [] = refl
@@ -126,11 +126,11 @@ module _ (b : Bus) (r : Reachable b) (i : ℕ) (l : i < attached_to b) (k : Know
 
   says_one : says_law b i k slot ≡ true
   says_one =
-      same_sound _ _ (by_account (λ x ts f. said_by (turn_at b i) ≡ says x.address x.master k.history ts f) (seat_says b r i l k.history w))
+      same_sound_lem _ _ (by_account (λ x ts f. said_by (turn_at b i) ≡ says x.address x.master k.history ts f) (seat_says b r i l k.history w))
 
   tells_one : (h : Sound) → same_report (report_of (turn_at (slot_heard b h) i).told) (observed i k h) ≡ true
   tells_one h =
-      same_report (report_of (turn_at (slot_heard b h) i).told) (observed i k h)
+      same_report_lem (report_of (turn_at (slot_heard b h) i).told) (observed i k h)
       (by_account (λ x ts f. report_of (turn_at (slot_heard b h) i).told ≡ told x ts f h)
       (ap (λ (t : Turn). report_of t.told) (slot_seat b h i (reachable_fit r).array l) ∙ seat_tells b r i l k.history w h))
 
@@ -152,12 +152,12 @@ module _ (b : Bus) (r : Reachable b) (i : ℕ) (l : i < attached_to b) (k : Know
 
   held_one : (c : Call) → held_law b i k c ≡ true
   held_one c =
-      same_telegrams _ _
+      same_telegrams_lem _ _
       (held_after_lem b r i l v.seated c ∙ ap (λ (ts : List Telegram). held_after b i k.attached ts c) (sym (v.held l)))
 
   answers_one : (c : Call) (pb sb : ℕ) → answers_as b i k c pb sb ≡ true
   answers_one c pb sb =
-      let e = answers_after b r i l v.seated c ∙ ap (λ (f : Answers). answers_after b i k.attached f c) (sym (v.answers l)) in
+      let e = answers_after_lem b r i l v.seated c ∙ ap (λ (f : Answers). answers_after b i k.attached f c) (sym (v.answers l)) in
       same_bytes_lem _ _ (ap (λ (f : Answers). bytes_of (f pb sb)) e)
 
   each_holds : (c : Call) → each_law b i k c ≡ true
@@ -174,13 +174,13 @@ module _ (b : Bus) (r : Reachable b) (i : ℕ) (l : i < attached_to b) (k : Know
 
 -- ---- any calls
 
-holds_from : (i : ℕ) (b : Bus) (k : Known) (cs : List Call) → Reachable b → ByteCalls cs → Account i b k → Followed i b k.history
+holds_from_lem : (i : ℕ) (b : Bus) (k : Known) (cs : List Call) → Reachable b → ByteCalls cs → Account i b k → Followed i b k.history
     → holds_from each_law i b k cs ≡ true
 unfolding holds_from
-holds_from i b k [] r y v w = refl
-holds_from i b k (c ∷ cs) r y v w =
+holds_from_lem i b k [] r y v w = refl
+holds_from_lem i b k (c ∷ cs) r y v w =
     both (cond (ltb i (attached_to b)) (each_law b i k c) true) (holds_from each_law i (after_call b c) (known_call i b k c) cs) (here (ltb i (attached_to b)) refl)
-    (holds_from i (after_call b c) (known_call i b k c) cs (reachable_more c r y.0) y.1 (account_call i b r k v c) (call_followed i b r k v w c))
+    (holds_from_lem i (after_call b c) (known_call i b k c) cs (reachable_more c r y.0) y.1 (account_call i b r k v c) (call_followed i b r k v w c))
   where
     here : (q : Bool) → ltb i (attached_to b) ≡ q → cond q (each_law b i k c) true ≡ true
     here true e = each_holds b r i (ltb-true i (attached_to b) e) k v (w.observed (ltb-true i (attached_to b) e)) c
@@ -200,12 +200,12 @@ unfolding all_hold_from
 all_from b hs [] e = refl
 all_from b hs (c ∷ cs) e =
     both (word_law b hs && generator_law b hs) (all_hold_from (λ b hs. word_law b hs && generator_law b hs) (after_call b c) (sounds_call b hs c) cs)
-    (both (word_law b hs) (generator_law b hs) (word_same (generator_says b.quiet ∷ map said_by (attached_turns b)) (word_is_the_and b)) (same_sound _ _ (counted_says b hs e)))
+    (both (word_law b hs) (generator_law b hs) (word_same (generator_says b.quiet ∷ map said_by (attached_turns b)) (word_is_the_and b)) (same_sound_lem _ _ (counted_says b hs e)))
     (all_from (after_call b c) (sounds_call b hs c) cs (call_counts b hs e c))
 
 pub agree_always : (cs : List Call) → ByteCalls cs → agrees cs ≡ true
 agree_always cs k =
     both (holds_in each_law cs) (all_hold_in (λ b hs. word_law b hs && generator_law b hs) cs)
     (every_one (λ i. holds_from each_law i powered_on unknown cs) (seats_of (after_calls powered_on cs))
-    (λ i. holds_from i powered_on unknown cs on_reachable k (on_account i) (on_followed i)))
+    (λ i. holds_from_lem i powered_on unknown cs on_reachable k (on_account i) (on_followed i)))
     (all_from powered_on [] cs none)

@@ -31,19 +31,19 @@ data InAnswer : Outcome → Type 0 where
   breaks : {x : WrongPair} → InAnswer (BrokenPair x)
   ends : {matched : Bool} → InAnswer (Whole matched)
 
-after_nn : (head : List ℕ) (n : ℕ) (u : Plainly) → InAnswer (after_nn head n u)
-after_nn head n (bytes bs) = by (ltb n (length bs)) _
+after_nn_lem : (head : List ℕ) (n : ℕ) (u : Plainly) → InAnswer (after_nn head n u)
+after_nn_lem head n (bytes bs) = by (ltb n (length bs)) _
   where
     by : (q matched : Bool) → InAnswer (cond q (Whole matched) More)
     by true matched = ends
     by false matched = goes_on
-after_nn head n waits = goes_on
-after_nn head n (broken i y) = breaks
+after_nn_lem head n waits = goes_on
+after_nn_lem head n (broken i y) = breaks
 
 answer_comes_to : (xs : List ℕ) → InAnswer (verdict AnswerPart xs)
 unfolding verdict
 answer_comes_to [] = goes_on
-answer_comes_to (n ∷ xs) = by (leb n 16) (after_nn [] n (unexpanded xs))
+answer_comes_to (n ∷ xs) = by (leb n 16) (after_nn_lem [] n (unexpanded xs))
   where
     by : (q : Bool) {o : Outcome} → InAnswer o → InAnswer (cond q o TooLong)
     by true w = w

@@ -24,7 +24,7 @@ use Rattle.station.specs.declared.phase.Sound.{Sound}
 use Rattle.station.specs.declared.replies.Reply.{Reply}
 use Rattle.station.specs.declared.station.Turn.{Turn}
 use Rattle.station.proofs.Book.{written_answers, written_others, none_missing, missing_answer}
-use Rattle.station.proofs.Frame.{ready_lasting, ready_outbox, hears_lasting, outbox_after}
+use Rattle.station.proofs.Frame.{ready_lasting, ready_outbox, hears_lasting, outbox_after_lem}
 use Rattle.station.proofs.Waiting.{none_waiting}
 use Rattle.bus.specs.declared.bus.Bus.{Bus}
 use Rattle.bus.specs.declared.bus.Answer.{Answer}
@@ -63,10 +63,10 @@ pub record Seated (b : Bus) (ws : List Who) : Type 0 where
   pub count : length ws ≡ attached_to b
   pub each : (j : ℕ) → j < attached_to b → get_or ws j nobody ≡ who_of (turn_at b j)
 
-in_seat : (i : ℕ) (ws : List Who) (f : Who → Bool) → i < length ws → in_seat i ws f ≡ f (get_or ws i nobody)
-in_seat i [] f l = absurd (not-suc-le-zero l)
-in_seat zero (w ∷ ws) f l = refl
-in_seat (suc i) (w ∷ ws) f l = in_seat i ws f (le_of_suc-le-suc l)
+in_seat_lem : (i : ℕ) (ws : List Who) (f : Who → Bool) → i < length ws → in_seat i ws f ≡ f (get_or ws i nobody)
+in_seat_lem i [] f l = absurd (not-suc-le-zero l)
+in_seat_lem zero (w ∷ ws) f l = refl
+in_seat_lem (suc i) (w ∷ ws) f l = in_seat_lem i ws f (le_of_suc-le-suc l)
 
 no_seat : (i : ℕ) (ws : List Who) (f : Who → Bool) → length ws ≤ i → in_seat i ws f ≡ false
 no_seat i [] f l = refl
@@ -74,7 +74,7 @@ no_seat zero (w ∷ ws) f l = absurd (not-suc-le-zero l)
 no_seat (suc i) (w ∷ ws) f l = no_seat i ws f (le_of_suc-le-suc l)
 
 its_seat : {b : Bus} {ws : List Who} → Seated b ws → (i : ℕ) → i < attached_to b → (f : Who → Bool) → in_seat i ws f ≡ f (who_of (turn_at b i))
-its_seat {b} {ws} w i l f = in_seat i ws f (omega (arith, w.count)) ∙ ap f (w.each i l)
+its_seat {b} {ws} w i l f = in_seat_lem i ws f (omega (arith, w.count)) ∙ ap f (w.each i l)
 
 new_who : (a : ℕ) (m : Bool) → who_of (newcomer a m) ≡ record { address = a; master = m }
 unfolding newcomer fresh
@@ -162,7 +162,7 @@ module _ (b : Bus) (r : Reachable b) (i : ℕ) (l : i < attached_to b) where
       let s = station_at b i in
       let same : turn_at (slot_heard b h) i ≡ turned h (turn_at b i) = slot_seat b h i (reachable_fit r).array l in
       ap (λ (t : Turn). waiting t.station.outbox) same
-      ∙ ap waiting (outbox_after (ready s) h) ∙ left_are (turned h (turn_at b i)).told (ready s).outbox (rw (ready_outbox s) (reachable_sane r i l).outbox)
+      ∙ ap waiting (outbox_after_lem (ready s) h) ∙ left_are (turned h (turn_at b i)).told (ready s).outbox (rw (ready_outbox s) (reachable_sane r i l).outbox)
       ∙ ap (λ (o : Outbox). left_by (report_of (turned h (turn_at b i)).told) (waiting o)) (ready_outbox s)
       ∙ ap (λ (t : Turn). left_by (report_of t.told) (holds b)) (sym same)
 
@@ -195,8 +195,8 @@ module _ (b : Bus) (r : Reachable b) (i : ℕ) (l : i < attached_to b) where
   queue_gives (queued {bits = n} j t _) = kept_turn (λ (t : Turn). answer_for t.station.replies) j (holding_more (turn_at b j) t) n refl
 
   -- queue
-  is_source : {qq : ℕ} → MasterAt qq (turn_at b i) → is_source qq its ≡ true
-  is_source {qq} w = rw (w.0, eq-eqb (station_at b i).address qq w.1)
+  is_source_lem : {qq : ℕ} → MasterAt qq (turn_at b i) → is_source qq its ≡ true
+  is_source_lem {qq} w = rw (w.0, eq-eqb (station_at b i).address qq w.1)
 
   source_is : {qq : ℕ} → is_source qq its ≡ true → (station_at b i).address ≡ qq
   source_is {qq} e = by (station_at b i).master e
@@ -228,7 +228,7 @@ module _ (b : Bus) (r : Reachable b) (i : ℕ) (l : i < attached_to b) where
               → Queued b qq (telegram_of qq zz pb sb bytes) (after_call b c) → Dec (i ≡ w.0) → holds (after_call b c) ≡ cond q more (holds b)
           seat q f w d (yes j) =
               let mine : MasterAt qq (turn_at b i) = subst (λ (n : ℕ). MasterAt qq (turn_at b n)) (sym j) w.2 in
-              let yes-it : true ≡ q = sym (is_source mine) ∙ f in
+              let yes-it : true ≡ q = sym (is_source_lem mine) ∙ f in
               subst (λ (n : ℕ). waiting (station_at (after_call b c) n).outbox ≡ waiting (station_at b n).outbox ++ (telegram_of qq zz pb sb bytes ∷ [])) (sym j) w.3
               ∙ ap (λ (q : Bool). cond q more (holds b)) yes-it
           seat true f w d (no n) =
@@ -249,9 +249,9 @@ module _ (b : Bus) (r : Reachable b) (i : ℕ) (l : i < attached_to b) where
       by true f g = inr (f, g)
       by false f g = inl (f, g)
 
-  is_slave : {a : ℕ} → SlaveAt a (turn_at b i) → is_slave a its ≡ true
-  is_slave {a} (inl p) = rw p.0 (eq-eqb (station_at b i).address a p.1)
-  is_slave {a} (inr p) = rw p.0 (eq-eqb (slave_of (station_at b i).address) a p.1)
+  is_slave_lem : {a : ℕ} → SlaveAt a (turn_at b i) → is_slave a its ≡ true
+  is_slave_lem {a} (inl p) = rw p.0 (eq-eqb (station_at b i).address a p.1)
+  is_slave_lem {a} (inr p) = rw p.0 (eq-eqb (slave_of (station_at b i).address) a p.1)
 
   one_slave : (a j : ℕ) → SlaveAt a (turn_at b i) → j < attached_to b → SlaveAt a (turn_at b j) → i ≡ j
   one_slave a j w k v = (reachable_fit r).apart i j a l k (slave_own (turn_at b i) a w) (slave_own (turn_at b j) a v)
@@ -293,7 +293,7 @@ module _ (b : Bus) (r : Reachable b) (i : ℕ) (l : i < attached_to b) where
         where
           seat : (q : Bool) → is_slave a its ≡ q → Dec (i ≡ d.place) → gives (after_call b c) ≡ cond q more (gives b)
           seat q f (yes j) =
-              let yes-it : true ≡ q = sym (is_slave (subst (λ (n : ℕ). SlaveAt a (turn_at b n)) (sym j) (first_holds d.station))) ∙ f in
+              let yes-it : true ≡ q = sym (is_slave_lem (subst (λ (n : ℕ). SlaveAt a (turn_at b n)) (sym j) (first_holds d.station))) ∙ f in
               fun_ext (λ p. fun_ext (λ s. here d j p s)) ∙ ap (λ (q : Bool). cond q more (gives b)) yes-it
           seat true f (no n) = absurd (n (one_slave a d.place (slave_is f) d.attached (first_holds d.station)))
           seat false f (no n) = ap (λ (t : Turn). answer_for t.station.replies) (d.changed.others i n)
@@ -315,16 +315,16 @@ module _ (b : Bus) (r : Reachable b) (i : ℕ) (l : i < attached_to b) where
     held_after_lem slot = slot_held (spoken b)
     held_after_lem (heard h) = slot_held h
 
-    pub answers_after : (c : Call) → gives (after_call b c) ≡ answers_after b i ws (gives b) c
+    pub answers_after_lem : (c : Call) → gives (after_call b c) ≡ answers_after b i ws (gives b) c
     unfolding slot_run
-    answers_after (attach a m) = attach_keeps (λ (t : Turn). answer_for t.station.replies) (did_attach b a m)
-    answers_after (queue qq zz pb sb bytes) = queue_gives (did_queue b qq zz pb sb bytes)
-    answers_after (reply a pb sb bytes) =
+    answers_after_lem (attach a m) = attach_keeps (λ (t : Turn). answer_for t.station.replies) (did_attach b a m)
+    answers_after_lem (queue qq zz pb sb bytes) = queue_gives (did_queue b qq zz pb sb bytes)
+    answers_after_lem (reply a pb sb bytes) =
         reply_gives a pb sb bytes
         ∙ ap (λ (q : Bool). cond (cond (is_done (verdict_on b (reply a pb sb bytes))) q false) (answers_with (gives b) pb sb (load_of bytes)) (gives b))
         (sym (its_seat w i l (is_slave a)))
-    answers_after slot = slot_gives (spoken b)
-    answers_after (heard h) = slot_gives h
+    answers_after_lem slot = slot_gives (spoken b)
+    answers_after_lem (heard h) = slot_gives h
 
 -- ---- from power-on
 
@@ -395,7 +395,7 @@ module _ (i : ℕ) where
               ap (λ (ts : List Telegram). held_after b i ws ts c) (w.held n) ∙ sym (held_after_lem b r i n w.seated c);
           answers = λ l.
               let n : i < attached_to b = omega arith in
-              ap (λ (f : Answers). answers_after b i ws f c) (w.answers n) ∙ sym (answers_after b r i n w.seated c);
+              ap (λ (f : Answers). answers_after b i ws f c) (w.answers n) ∙ sym (answers_after_lem b r i n w.seated c);
         }
 
     queue_count : {qq zz pb sb : ℕ} {bytes : List ℕ} {x : Answer} → Did b (queue qq zz pb sb bytes) x → attached_to x.bus ≡ attached_to b

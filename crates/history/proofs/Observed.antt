@@ -20,7 +20,7 @@ use Rattle.station.specs.declared.phase.Since.{Since}
 use Rattle.station.specs.declared.phase.Sound.{Sound}
 use Rattle.station.specs.declared.phase.Sound.TheVariants.{Quiet, Symbol}
 use Rattle.station.specs.declared.station.Station.{Station}
-use Rattle.station.proofs.Aa.{IsSyn, aa, NoSyn, symbol, by_sound}
+use Rattle.station.proofs.Aa.{IsSyn, aa, NoSyn, symbol, by_sound_lem}
 use Rattle.station.proofs.AfterSyn.{after_syn}
 use Rattle.station.proofs.Frame.{ready_lasting, ready_outbox, hears_lasting, admission_over}
 use Rattle.station.proofs.Possible.{Possible, ready_possible}
@@ -37,7 +37,7 @@ use Rattle.history.specs.Observer as observer
 use Rattle.history.proofs.Access.{admitted_at, since_at, admitted_more, since_quiet, since_symbol, marks_quiet, marks_symbol, admitted_next}
 use Rattle.history.proofs.Matches.{MatchesIn, Comes}
 use Rattle.history.proofs.Shares.{wins, share_next, share_won}
-use Rattle.history.proofs.Slots.{moment, begun, mark_after, quiet_comes, symbol_comes, won_comes, syn_told_in, syn_matches, ready_matches, ready_held, ready_access, says_in, begun_says, begun_tells, begun_next, symbol_access, quiet_access, bids_in, admits_in}
+use Rattle.history.proofs.Slots.{moment, begun, mark_after, quiet_comes, symbol_comes, won_comes, syn_told_in, syn_matches, ready_matches, ready_held, ready_access, says_in_lem, begun_says, begun_tells, begun_next, symbol_access, quiet_access, bids_in, admits_in}
 use Rattle.history.specs.Lines.{HandsOut}
 use Rattle.history.proofs.HandsOut.{none_syn, none_owns, begun_hands, hands}
 use Rattle.history.proofs.Steps as steps
@@ -97,7 +97,7 @@ module _ (s₀ : Station) (kept : Kept s₀.outbox) (array : Sixteen s₀.part.l
   pub says_now : says s ≡ observer.says a m g ws book
   unfolding observer.says
   says_now =
-      says_in s (ready_held s₀) possible_now book matched
+      says_in_lem s (ready_held s₀) possible_now book matched
       ∙ ap₂ (λ (q : Bool) (h : Sound). cond q (Symbol s.address) h) bids_now (begun_says u book)
       ∙ ap (λ (c : ℕ). cond (bidding (admitted_by a m g.earlier) g.now ws) (Symbol c) (says_in u book)) (ready_lasting s₀).address
 
@@ -234,7 +234,7 @@ module _ (s₀ : Station) (kept : Kept s₀.outbox) (array : Sixteen s₀.part.l
   -- ---- any slot
 
   pub tells_now : (h : Sound) → report_of (hears s h).told ≡ observer.tells a m g ws book h
-  tells_now h = by_sound h (by_syn h) (λ n. (comes_now h n).told)
+  tells_now h = by_sound_lem h (by_syn h) (λ n. (comes_now h n).told)
     where
       by_syn : (h : Sound) → IsSyn h → report_of (hears s h).told ≡ observer.tells a m g ws book h
       by_syn h (aa {b} e) =
@@ -242,7 +242,7 @@ module _ (s₀ : Station) (kept : Kept s₀.outbox) (array : Sixteen s₀.part.l
           subst (λ (c : ℕ). report_of (hears s (Symbol c)).told ≡ observer.tells a m g ws book (Symbol c)) (sym i) comes_syn.told
 
   pub observed_later : (h : Sound) → Observed a m (later g (moment ws book h)) (hears s h).station
-  observed_later h = by_sound h (by_syn h) (by_other h)
+  observed_later h = by_sound_lem h (by_syn h) (by_other h)
     where
       by_syn : (h : Sound) → IsSyn h → Observed a m (later g (moment ws book h)) (hears s h).station
       by_syn h (aa {b} e) =
@@ -257,7 +257,7 @@ module _ (s₀ : Station) (kept : Kept s₀.outbox) (array : Sixteen s₀.part.l
 
   pub hands_now : (h : Sound) → HandsOut u h (observer.tells a m g ws book h) (hears s h).station.part
   unfolding observer.tells
-  hands_now h = by_sound h (by_syn h) (λ n. by_other n (wins a m g.earlier g.now (moment ws book h)) refl)
+  hands_now h = by_sound_lem h (by_syn h) (λ n. by_other n (wins a m g.earlier g.now (moment ws book h)) refl)
     where
       by_syn : (h : Sound) → IsSyn h → HandsOut u h (observer.tells a m g ws book h) (hears s h).station.part
       by_syn h (aa {b} e) =

@@ -88,9 +88,9 @@ by_test true f g = f refl
 by_test false f g = g refl
 
 -- ZZ is FE
-pub to_all : (zz : ℕ) → for_all zz ≡ to_all zz
+pub to_all_lem : (zz : ℕ) → for_all zz ≡ to_all zz
 unfolding for_all address.role_of
-to_all zz = by_tests (is_master zz) (eqb zz 0xFE) refl refl
+to_all_lem zz = by_tests (is_master zz) (eqb zz 0xFE) refl refl
   where
     neither : (r : Bool) → is_broadcast (cond r Never Slave) ≡ false
     neither true = refl
@@ -122,13 +122,13 @@ module _ (x : Station) (s : Sender) (n : Time) (w : Loaded s x.out x.part) where
       by (owner t) = leaving x (FailedFree Disturbed) refl
       by (slave xs) = going x Silent (Failed Disturbed) matches.is_over refl
 
-  sent_whole : Comes (out s n []) (tells_out s []) (sent_whole x (sent_part s) (attempt n))
+  sent_whole_lem : Comes (out s n []) (tells_out s []) (sent_whole x (sent_part s) (attempt n))
   unfolding sent_whole
-  sent_whole = by s w
+  sent_whole_lem = by s w
     where
       by : (s : Sender) → Loaded s x.out x.part → Comes (out s n []) (tells_out s []) (sent_whole x (sent_part s) (attempt n))
       by (owner t) w =
-          let e : for_all x.part.zz ≡ to_all t.zz = ap (λ (p : Telegram). for_all p.zz) w.knows ∙ to_all t.zz in
+          let e : for_all x.part.zz ≡ to_all t.zz = ap (λ (p : Telegram). for_all p.zz) w.knows ∙ to_all_lem t.zz in
           rw e
           (by_test (to_all t.zz) (λ _. going x Releasing Taken matches.is_releases refl)
           (λ _. going x (Awaiting MasterPart (attempt n)) Silence (matches.is_awaits {s = owner t} {n = n} w) refl))
@@ -137,7 +137,7 @@ module _ (x : Station) (s : Sender) (n : Time) (w : Loaded s x.out x.part) where
   -- its own symbol was heard
   sent_on : (xs : List ℕ) (y : ℕ) (ys : List ℕ) → symbols_of s ≡ xs ++ (y ∷ ys)
       → Comes (share.sent s n ys (out s n) []) (tells_out s ys) (sent x (length xs) (sent_part s) (attempt n))
-  sent_on xs y [] f = rw (sent_last x (symbols_of s) xs y [] f w.out_is w.fits refl (sent_part s) (attempt n)) sent_whole
+  sent_on xs y [] f = rw (sent_last x (symbols_of s) xs y [] f w.out_is w.fits refl (sent_part s) (attempt n)) sent_whole_lem
   sent_on xs y (z ∷ zs) f =
       rw (sent_more x (symbols_of s) xs y (z ∷ zs) f w.out_is w.fits (omega arith) (sent_part s) (attempt n))
       (going x (Sending (length xs + 1) (sent_part s) (attempt n)) Silence
@@ -267,7 +267,7 @@ module _ (x : Station) (n : Time) (xs : List ℕ) (c : Cursor) (p₀ : Telegram)
       let z = x.part.zz in
       let i = eqb z x.address in
       let j = cond x.master (eqb z (slave_of x.address)) false in
-      rw (to_all z) (by i j (to_all z) (ap (for_it x.address x.master) e))
+      rw (to_all_lem z) (by i j (to_all z) (ap (for_it x.address x.master) e))
     where
       by : (i j k : Bool) → reads_on (station x.address x.master) xs ≡ cond i true (cond j true k)
           → Comes (read_so_far (station x.address x.master) n xs) silence
@@ -343,7 +343,7 @@ module _ (x : Station) (n : Time) (ys : List ℕ) (matched : Bool) where
       (cond (to_all (zz_in ys)) (cond matched observer.given silence) silence) (whole x MasterPart (attempt n) matched)
   unfolding whole
   station_whole e h =
-      rw (e, to_all x.part.zz, h.head.zz)
+      rw (e, to_all_lem x.part.zz, h.head.zz)
       (by_test (to_all x.part.zz) (λ _. at_once matched)
       (λ _. going x (Judging MasterPart (attempt n) matched false) Silence (matches.is_judges {n = n} {just = true} h (refl, refl)) refl))
     where
@@ -667,8 +667,8 @@ module _ (s : Station) (held : s.phase ≡ Owing → ⊥) (possible : Possible s
           by false = refl
       go p e (matches.is_owes _ _) = absurd (held e)
 
-  pub says_in : {u : Share} → MatchesIn s u → says s ≡ cond (bids s) (Symbol s.address) (says_in u book)
-  says_in {u} m = go (bids s) refl
+  pub says_in_lem : {u : Share} → MatchesIn s u → says s ≡ cond (bids s) (Symbol s.address) (says_in u book)
+  says_in_lem {u} m = go (bids s) refl
     where
       go : (r : Bool) → bids s ≡ r → says s ≡ cond r (Symbol s.address) (says_in u book)
       go true e = bid_says e

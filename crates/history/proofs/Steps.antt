@@ -174,12 +174,12 @@ module _ (x : Moment) where
     read_steps xs [] =
         record { goes = read_first xs (reads_on r xs) refl x.heard ∙ sym (next_test (reads_on r xs) (reads r n xs)) }
     read_steps xs (m ∷ ms) =
-        by_sound m.heard (read_steps xs ms) (λ b. by_more (verdict (which_of r) (xs ++ (b ∷ []))) (read_steps (xs ++ (b ∷ [])) ms)
+        by_sound_lem m.heard (read_steps xs ms) (λ b. by_more (verdict (which_of r) (xs ++ (b ∷ []))) (read_steps (xs ++ (b ∷ [])) ms)
         (ended_steps r n f (verdict (which_of r) (xs ++ (b ∷ []))) (xs ++ (b ∷ [])) ms))
       where
-        by_sound : (h : Sound) {u v : Share} {f g : ℕ → Share} → Goes x u v → ((b : ℕ) → Goes x (f b) (g b)) → Goes x (by_sound h u f) (by_sound h v g)
-        by_sound Quiet e k = e
-        by_sound (Symbol b) e k = k b
+        by_sound_lem : (h : Sound) {u v : Share} {f g : ℕ → Share} → Goes x u v → ((b : ℕ) → Goes x (f b) (g b)) → Goes x (by_sound h u f) (by_sound h v g)
+        by_sound_lem Quiet e k = e
+        by_sound_lem (Symbol b) e k = k b
 
   rereads_steps : (r : Reader) (n : Time) → Steps x (rereads r n)
   rereads_steps r again ms = fails_steps r ms

@@ -173,9 +173,9 @@ module _ (at reg nn : ℕ) (p : Telegram) (xs : List ℕ) (b : ℕ) (counts : at
       omega (arith, counts, ap length e, length-append (heard w p read) (pending o), length-append (before w p) (p.load.nn ∷ expand (first read)))
 
   -- data and CRC
-  from_nn : (w : Part) (o : Bool) (read : ℕ) → Counted w nn p → xs ≡ heard w p read ++ pending o
+  from_nn_lem : (w : Part) (o : Bool) (read : ℕ) → Counted w nn p → xs ≡ heard w p read ++ pending o
       → verdict w (xs ++ (b ∷ [])) ≡ after_nn (before w p) nn (all_behind (first read) (as_undone (undo o at b)))
-  from_nn w o read k e =
+  from_nn_lem w o read k e =
       let shape : xs ++ (b ∷ []) ≡ before w p ++ (p.load.nn ∷ ((expand (first read) ++ pending o) ++ (b ∷ []))) =
       ap (λ (l : List ℕ). l ++ (b ∷ [])) e ∙ moved (before w p) (expand (first read)) (pending o) (b ∷ []) p.load.nn in
       ap (verdict w) shape ∙ from_body w p (p.load.nn ∷ ((expand (first read) ++ pending o) ++ (b ∷ []))) k.fit
@@ -187,7 +187,7 @@ module _ (at reg nn : ℕ) (p : Telegram) (xs : List ℕ) (b : ℕ) (counts : at
   unfolding read_data
   data_at w o read k l e =
       let n : length (first read) ≡ read = length-take-le read p.load.bytes (omega (arith, array, k.most)) in
-      from_nn w o read k e
+      from_nn_lem w o read k e
       ∙ data_verdict (before w p) nn k.most (first read) at b clear o (placed w o read e) (omega (arith, n)) (cursor (Data read) o) p b (undo o at b) refl (omega (arith, n, k.most))
       ∙ ap (λ (i : ℕ). (data_as (undo o at b) (cursor (Data read) o) p i b).outcome) n
 
@@ -198,7 +198,7 @@ module _ (at reg nn : ℕ) (p : Telegram) (xs : List ℕ) (b : ℕ) (counts : at
       let n : length (first nn) ≡ nn = length-take-le nn p.load.bytes (omega (arith, array, k.most)) in
       let c : reg ≡ crc_of (before w p ++ (length (first nn) ∷ expand (first nn))) =
       r ∙ ap (λ (i : ℕ). crc_of (before w p ++ (i ∷ expand (first nn)))) (sym k.same ∙ sym n) in
-      from_nn w o nn k e ∙ crc_verdict (before w p) nn k.most (first nn) at b clear o (placed w o nn e) n (cursor Crc o) p (undo o at b) refl c
+      from_nn_lem w o nn k e ∙ crc_verdict (before w p) nn k.most (first nn) at b clear o (placed w o nn e) n (cursor Crc o) p (undo o at b) refl c
 
   -- the place of NN
   nn_at : (w : Part) → If-master w (Message p) → xs ≡ before w p → verdict w (xs ++ (b ∷ [])) ≡ cond (leb b 16) More TooLong

@@ -95,9 +95,9 @@ module _ (t : List Pair) (c : Counts) (u : UnderWay) (xs : List Transfer) (x : T
       past_end = omega (arith, past e, h.whole)
 
   -- as it is counted
-  pub counted_one : Next (set t place (noted (get_or t place blank) place c x)) (settled c u place x)
+  pub counted_one_lem : Next (set t place (noted (get_or t place blank) place c x)) (settled c u place x)
   unfolding noted settled
-  counted_one = rw (all_in_use t c xs h) (go (among (ends_of x) (recorded xs)) refl)
+  counted_one_lem = rw (all_in_use t c xs h) (go (among (ends_of x) (recorded xs)) refl)
     where
       by_room : among (ends_of x) (recorded xs) ≡ false → (r : Bool) → ltb place records ≡ r
           → Next (set t place (opened x)) (cond r (counts (place + 1) c.others u) (counts c.used (raise c.others x.taken) u))

@@ -20,7 +20,7 @@ use Rattle.pairs.specs.Recount.{pairs_of, recorded, records_of, how_many, tally_
 use Rattle.pairs.specs.Table.{settled, counted_one, counted_as, count_in}
 use Rattle.pairs.specs.Tallied.{Tallied}
 use Rattle.pairs.proofs.AllInUse.{place_found}
-use Rattle.pairs.proofs.OneMore.{counted_one}
+use Rattle.pairs.proofs.OneMore.{counted_one_lem}
 
 -- a table just cleared: of no transfer
 pub fresh_tallied : (t : List Pair) (u : UnderWay) → length t ≡ records → Tallied t (uncounted u) []
@@ -60,7 +60,7 @@ module _ (t : List Pair) (c : Counts) (u : UnderWay) (xs : List Transfer) where
       → Tallied (count_in t (heard c u (One x))).table (count_in t (heard c u (One x))).kept.counts (x ∷ xs)
   unfolding counted_one records_of
   one_more x h =
-      rw (as_counted t c u h.whole (One x), place_found t c xs h x.qq x.zz) (counted_one t c u xs x h)
+      rw (as_counted t c u h.whole (One x), place_found t c xs h x.qq x.zz) (counted_one_lem t c u xs x h)
 
   -- none has
   pub none_more : Tallied t c xs → Tallied (count_in t (heard c u Nothing)).table (count_in t (heard c u Nothing)).kept.counts xs

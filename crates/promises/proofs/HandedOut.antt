@@ -24,7 +24,7 @@ use Rattle.station.specs.declared.phase.Sound.TheVariants.{Quiet, Symbol}
 use Rattle.station.specs.declared.station.Station.{Station}
 use Rattle.station.specs.declared.station.Turn.{Turn}
 use Rattle.station.proofs.Aa.{IsSyn, aa, NoSyn, quiet, symbol, by_sound}
-use Rattle.station.proofs.Frame.{Begins, as_it_stood, answers, ready_begins, ready_outbox, outbox_after}
+use Rattle.station.proofs.Frame.{Begins, as_it_stood, answers, ready_begins, ready_outbox, outbox_after_lem}
 use Rattle.station.proofs.Turned.{moves_of}
 use Rattle.bus.specs.declared.bus.Bus.{Bus}
 use Rattle.bus.specs.declared.bus.Answer.{Answer}
@@ -118,7 +118,7 @@ turned_follows t xs h w =
     record {
       step = g.step;
       out = g.out;
-      outbox = rw (outbox_after s h) (after_full (hears s h).told s.outbox o);
+      outbox = rw (outbox_after_lem s h) (after_full (hears s h).told s.outbox o);
     }
 
 -- ---- the bus, seen from a seat

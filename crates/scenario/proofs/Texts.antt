@@ -55,15 +55,15 @@ unfolding text_of line_text counted_text
 failed_free_text time a f t = simp append-nil
 
 -- a load of 16 places carries as many bytes as its count says
-pub given_text : (time : Time) (a : ℕ) (t : Telegram) → length t.load.bytes ≡ 16
+pub given_text_lem : (time : Time) (a : ℕ) (t : Telegram) → length t.load.bytes ≡ 16
     → text_at time (event a given (t.qq ∷ t.pb ∷ t.sb ∷ length (bytes_of t.load) ∷ bytes_of t.load) ∷ []) ≡ given_text time.slot a t
 unfolding text_of line_text given_text load_text hexes_text
-given_text time a t h = simp (counted_length t.load h, append-nil, append_assoc)
+given_text_lem time a t h = simp (counted_length t.load h, append-nil, append_assoc)
 
-pub answer_text : (time : Time) (a : ℕ) (t : Telegram) → length t.load.bytes ≡ 16
+pub answer_text_lem : (time : Time) (a : ℕ) (t : Telegram) → length t.load.bytes ≡ 16
     → text_at time (event a answer (t.zz ∷ length (bytes_of t.load) ∷ bytes_of t.load) ∷ []) ≡ answer_text time.slot a t
 unfolding text_of line_text answer_text load_text hexes_text
-answer_text time a t h = simp (counted_length t.load h, append-nil, append_assoc)
+answer_text_lem time a t h = simp (counted_length t.load h, append-nil, append_assoc)
 
 -- ---- in a loop
 

@@ -21,7 +21,7 @@ use Rattle.screen.specs.Fields.{fields_from, fields_in, lines_in}
 use Rattle.screen.specs.Lines.{line_text}
 use Rattle.screen.specs.Output.{displayed}
 use Rattle.screen.proofs.LineFeeds.{one_more}
-use Rattle.screen.proofs.LinesByFields.{lines_by_fields}
+use Rattle.screen.proofs.LinesByFields.{lines_by_fields_lem}
 
 next_as : (a b c : Bool) (at n : ℕ) (f : Field)
     → is_bad (cond a (no_field at) (cond b (no_field at) (cond c (no_field at) (record { field = f; next = at + 3 + n })))).field ≡ false
@@ -58,4 +58,4 @@ lines_from (suc k) s at b g = go (ltb at (length s)) refl (lines_from k s (field
 
 pub a_line_each_field : (s : List ℕ) → form_of s ≡ Good → lines_in (displayed s) ≡ fields_in s
 unfolding lines_by_fields fields_in
-a_line_each_field s g = ap (λ (t : List ℕ). lines_in t) (lines_by_fields s g) ∙ lines_from (length s) s 0 powered_on (found_first s g)
+a_line_each_field s g = ap (λ (t : List ℕ). lines_in t) (lines_by_fields_lem s g) ∙ lines_from (length s) s 0 powered_on (found_first s g)

@@ -88,6 +88,6 @@ from_fields (suc k) s at b = go (ltb at (length s)) (from_fields k s to gone.bus
     go false e = refl
 
 -- of every scenario of good form
-pub lines_by_fields : (s : List ℕ) → form_of s ≡ Good → displayed s ≡ lines_by_fields s
+pub lines_by_fields_lem : (s : List ℕ) → form_of s ≡ Good → displayed s ≡ lines_by_fields s
 unfolding displayed moments lines_by_fields
-lines_by_fields s g = rw g (from_fields (length s) s 0 powered_on)
+lines_by_fields_lem s g = rw g (from_fields (length s) s 0 powered_on)

@@ -101,12 +101,12 @@ value_behind (code t v) front rest = value_read front v rest (code_tag t) (Read 
 value_behind (block v) front rest = value_read front v rest 0x05 Shares
 value_behind (value t kind a b c d) front rest = value_read front (kind ∷ a ∷ b ∷ c ∷ d ∷ []) rest (value_tag t) (Write t)
 
-entry_line : (i : Item) → entry_line (entry_for i) (value_bytes i) ≡ item_line i
+entry_line_lem : (i : Item) → entry_line (entry_for i) (value_bytes i) ≡ item_line i
 unfolding given_in byte_at
-entry_line (code t v) = refl
-entry_line (block v) = refl
-entry_line (value t kind a b c d) = refl
+entry_line_lem (code t v) = refl
+entry_line_lem (block v) = refl
+entry_line_lem (value t kind a b c d) = refl
 
 -- and so its line is that item's
 pub line_behind : (i : Item) (front rest : List ℕ) → line_at (front ++ (item_bytes i ++ rest)) (placed_at i (length front)) ≡ item_line i
-line_behind i front rest = ap (λ (v : List ℕ). entry_line (entry_for i) v) (value_behind i front rest) ∙ entry_line i
+line_behind i front rest = ap (λ (v : List ℕ). entry_line (entry_for i) v) (value_behind i front rest) ∙ entry_line_lem i

@@ -63,8 +63,8 @@ pub data HexDigit (c : ℕ) : Type 0 where
 pub data TwoDigits : List ℕ → Type 0 where
   two : {high low : ℕ} → HexDigit high → HexDigit low → TwoDigits (high ∷ low ∷ [])
 
-hex_digit : (c : ℕ) → digit_of c < no_digit → HexDigit c
-hex_digit c h = go (ltb c 48) (ltb c 58) (ltb c 65) (ltb c 71) (ltb c 97) (ltb c 103) refl refl refl refl refl refl
+hex_digit_lem : (c : ℕ) → digit_of c < no_digit → HexDigit c
+hex_digit_lem c h = go (ltb c 48) (ltb c 58) (ltb c 65) (ltb c 71) (ltb c 97) (ltb c 103) refl refl refl refl refl refl
   where
     go : (k l m n o p : Bool) → ltb c 48 ≡ k → ltb c 58 ≡ l → ltb c 65 ≡ m → ltb c 71 ≡ n → ltb c 97 ≡ o → ltb c 103 ≡ p → HexDigit c
     go true l m n o p a b d e f g = absurd (omega (arith, digit.below c (ltb-true c 48 a)))
@@ -98,7 +98,7 @@ read_two : (w : List ℕ) → is_byte (byte_of w) ≡ true → TwoDigits w
 unfolding byte_of
 read_two [] e = absurd (false≢true e)
 read_two (h ∷ []) e = absurd (false≢true e)
-read_two (h ∷ (l ∷ [])) e = let d = both_below (digit_of h) (digit_of l) e in two (hex_digit h d.0) (hex_digit l d.1)
+read_two (h ∷ (l ∷ [])) e = let d = both_below (digit_of h) (digit_of l) e in two (hex_digit_lem h d.0) (hex_digit_lem l d.1)
 read_two (h ∷ (l ∷ (m ∷ w))) e =
     let longer : eqb (length (h ∷ (l ∷ (m ∷ w)))) 2 ≡ false = ne_eqb (length (h ∷ (l ∷ (m ∷ w)))) 2 (λ f. omega (arith, f)) in
     absurd (false≢true (rw longer at e))

@@ -9,7 +9,7 @@ use Rattle.wire.specs.declared.symbol.Kind.TheVariants.{Syn}
 use Rattle.station.specs.Outbox.{held_in}
 use Rattle.station.specs.Admission.{bids, over_now, noted}
 use Rattle.station.specs.Hear.{hear_quiet, hear_symbol, hears}
-use Rattle.station.proofs.Aa.{heard_other}
+use Rattle.station.proofs.Aa.{heard_other_lem}
 use Rattle.station.specs.Table.{row, heard_nothing, heard_other}
 use Rattle.station.specs.declared.phase.Phase.{Phase}
 use Rattle.station.specs.declared.phase.Sound.TheVariants.{Quiet, Symbol}
@@ -17,7 +17,7 @@ use Rattle.station.specs.declared.station.Station.{Station}
 
 pub hears_symbol : (s : Station) (b : ℕ) → (kind_of b ≡ Syn → ⊥) → hears s (Symbol b) ≡ row s.phase (heard_other b) (bids s) (noted s)
 unfolding hear_symbol
-hears_symbol s b n = heard_other s b n
+hears_symbol s b n = heard_other_lem s b n
 
 pub symbol_at : (s : Station) (b : ℕ) → (kind_of b ≡ Syn → ⊥) → (p : Phase) → s.phase ≡ p → hears s (Symbol b) ≡ row p (heard_other b) (bids s) (noted s)
 symbol_at s b k p e = hears_symbol s b k ∙ ap (λ (q : Phase). row q (heard_other b) (bids s) (noted s)) e

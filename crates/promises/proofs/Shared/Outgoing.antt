@@ -61,9 +61,9 @@ module _ (P : Bus → Type 0) (on : Reachable powered_on → P powered_on)
 abbrev pub own_as : ℕ → Bool → ℕ → Bool
 own_as a m zz = cond (eqb zz a) true (cond m (eqb zz (slave_of a)) false)
 
-pub own_as : (s : Station) (zz : ℕ) → is_own s zz ≡ own_as s.address s.master zz
+pub own_as_lem : (s : Station) (zz : ℕ) → is_own s zz ≡ own_as s.address s.master zz
 unfolding is_own
-own_as s zz = refl
+own_as_lem s zz = refl
 
 pub record Outgoing (a : ℕ) (m : Bool) (t : Telegram) : Type 0 where
   pub message : Message t

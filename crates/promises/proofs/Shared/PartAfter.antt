@@ -32,7 +32,7 @@ use Rattle.station.specs.Turn.{goes, with_part}
 use Rattle.station.specs.Addressed.{for_all, answered, is_own}
 use Rattle.station.specs.Table.{reader_fails, whole, addressed, read_on, read_on_at, reads_as, reads, handed_out, judged_taken, read_again, judges, left, released, sender_fails, hear_bid, sent_whole, sent, hear_own_as, hear_own, taken, nak_heard, hear_reply, row, hear_reading, heard_nothing, heard_other, owner_fails}
 use Rattle.station.specs.Hear.{hear_quiet, hear_symbol, hears}
-use Rattle.station.proofs.Aa.{NoSyn, quiet, symbol, heard_other}
+use Rattle.station.proofs.Aa.{NoSyn, quiet, symbol, heard_other_lem}
 use Rattle.station.proofs.Turned.{SendsAa, after_5, after_5_long, owner_sends_aa}
 
 -- a master part that is judged is for one station
@@ -256,4 +256,4 @@ module _ (s : Station) where
   pub part_after : {h : Sound} → NoSyn h → AfterTurn s s.phase h (hears s h)
   unfolding hears hear_quiet hear_symbol
   part_after quiet = quiet_part s.phase
-  part_after (symbol {b} n) = rw (heard_other s b n) (symbol_part b s.phase)
+  part_after (symbol {b} n) = rw (heard_other_lem s b n) (symbol_part b s.phase)

@@ -16,7 +16,7 @@ use Rattle.station.specs.declared.replies.Reply.{Reply}
 use Rattle.station.specs.declared.station.Station.{Station}
 use Rattle.station.specs.declared.station.Turn.{Turn}
 use Rattle.station.proofs.Book.{Filed, none_filed, written_filed}
-use Rattle.station.proofs.Frame.{ready_lasting, ready_outbox, hears_lasting, outbox_after}
+use Rattle.station.proofs.Frame.{ready_lasting, ready_outbox, hears_lasting, outbox_after_lem}
 use Rattle.station.proofs.Possible.{Possible, fresh_possible, ready_possible, hears_possible}
 use Rattle.station.proofs.Turned.{outbox_after}
 use Rattle.station.proofs.Waiting.{Kept, none_kept, accepted_kept, dropped_kept}
@@ -118,7 +118,7 @@ slot_sane : (t : Turn) (h : Sound) → SaneTurn t → SaneTurn (turned h t)
 slot_sane t h w =
     let s = ready t.station in
     let o : s.outbox ≡ t.station.outbox = ready_outbox t.station in
-    let p : (hears s h).station.outbox ≡ outbox_after (hears s h).told t.station.outbox = outbox_after s h ∙ ap (outbox_after (hears s h).told) o in
+    let p : (hears s h).station.outbox ≡ outbox_after (hears s h).told t.station.outbox = outbox_after_lem s h ∙ ap (outbox_after (hears s h).told) o in
     let q : (hears s h).station.replies ≡ t.station.replies = (hears_lasting s h).replies ∙ (ready_lasting t.station).replies in
     record {
       possible = hears_possible s h (ready_possible t.station w.possible);

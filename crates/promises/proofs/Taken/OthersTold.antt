@@ -46,15 +46,15 @@ module _ {h : Since} (s : Station) (w : Follows h s) (t : Telegram) (o : Strange
   pub all_given : xs ++ (b ∷ []) ≡ telegram_form t → for_all t.zz ≡ true
       → IsGiven (hears s (Symbol b)) t × ((hears s (Symbol b)).station.phase ≡ Silent)
   all_given f a =
-      let d = at_end s h w.admitted w.array w.listens b k t n xs o (for_all (own_as s.address s.master t.zz) a) u f in
+      let d = at_end s h w.admitted w.array w.listens b k t n xs o (for_all_lem (own_as s.address s.master t.zz) a) u f in
       let q =
       hears_given s b d.cursor n d.phase k (no_win s h w.admitted w.array w.listens t n xs b [] o u (sym f)) d.right
       (rw d.same_zz a) in
       (record { told_given = q.0; same = rw q.1.memory d.same }, q.1.phase)
     where
-      for_all : (r : Bool) → for_all t.zz ≡ true → cond r true (for_all t.zz) ≡ true
-      for_all true a = refl
-      for_all false a = a
+      for_all_lem : (r : Bool) → for_all t.zz ≡ true → cond r true (for_all t.zz) ≡ true
+      for_all_lem true a = refl
+      for_all_lem false a = a
 
   -- 00 behind a part that is its own: it hands it out
   pub one_given : xs ≡ telegram_form t → for_all t.zz ≡ false → b ≡ ack → own_as s.address s.master t.zz ≡ true → IsGiven (hears s (Symbol b)) t

@@ -45,7 +45,7 @@ use Rattle.promises.proofs.Shared.AtPhase.{symbol_at}
 use Rattle.promises.proofs.Shared.FitKept.{ready_apart}
 use Rattle.promises.proofs.Shared.InStep.{hands_out}
 use Rattle.promises.proofs.Taken.OthersTold.{hands_out_nothing, stranger, all_given, one_given, other_silent}
-use Rattle.promises.proofs.Shared.Outgoing.{own_as, own_as, Outgoing}
+use Rattle.promises.proofs.Shared.Outgoing.{own_as, own_as_lem, Outgoing}
 use Rattle.promises.proofs.SameSymbol.{same_symbol}
 use Rattle.promises.proofs.Taken.SenderHeard.{due_is, sent_more}
 use Rattle.promises.proofs.Taken.TakenBy.{is_taken, TakenBy, last_sent, acknowledged, taken_only_if}
@@ -116,7 +116,7 @@ ready_part s = begun (ready_begins s)
 module _ {b : Bus} {c : Call} {h : Sound} (r : Reachable b) (hear : AllHear b c h) (i : ℕ) (l : i < attached_to b) where
   ready_own : (j zz : ℕ) → is_own (station_at b j) zz ≡ own_as (ready_seat b j).address (ready_seat b j).master zz
   unfolding is_own
-  ready_own j zz = let e = ready_lasting (station_at b j) in rw (e.address, e.master) (own_as (station_at b j) zz)
+  ready_own j zz = let e = ready_lasting (station_at b j) in rw (e.address, e.master) (own_as_lem (station_at b j) zz)
 
   addresses_apart : (j : ℕ) → j < attached_to b → j ≢ i → (ready_seat b i).address ≡ (ready_seat b j).address → ⊥
   addresses_apart j k d e = ready_apart r j i k l d (sym e)

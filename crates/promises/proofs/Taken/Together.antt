@@ -22,7 +22,7 @@ use Rattle.station.specs.declared.station.Station.{Station}
 use Rattle.station.specs.declared.station.Turn.{Turn}
 use Rattle.station.proofs.Aa.{IsSyn, NoSyn, quiet, symbol, by_sound}
 use Rattle.station.proofs.AfterSyn.{after_syn}
-use Rattle.station.proofs.Frame.{Begins, as_it_stood, answers, ready_begins, ready_lasting, ready_outbox, hears_lasting, outbox_after, admission_over}
+use Rattle.station.proofs.Frame.{Begins, as_it_stood, answers, ready_begins, ready_lasting, ready_outbox, hears_lasting, outbox_after_lem, admission_over}
 use Rattle.station.proofs.Possible.{ready_possible}
 use Rattle.bus.specs.declared.bus.Bus.{Bus}
 use Rattle.bus.specs.declared.bus.Answer.{Answer}
@@ -106,7 +106,7 @@ module _ {h : Since} (s : Station) (sane : Sane s) (w : Follows h s) where
   out_after : (x : Sound) → AllOut (hears s x).station.address (hears s x).station.master (hears s x).station.outbox
   out_after x =
       let l = hears_lasting s x in
-      rw (l.address, l.master, outbox_after s x)
+      rw (l.address, l.master, outbox_after_lem s x)
       (after_out s.address s.master (hears s x).told s.outbox sane.outbox w.outgoing)
 
   array_after : {x : Sound} → NoSyn x → Sixteen (hears s x).station.part.load

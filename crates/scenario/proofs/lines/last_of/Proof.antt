@@ -8,7 +8,7 @@ use Rattle.station.specs.Events.{tells}
 use Rattle.scenario.specs.Pen.{pen, penned}
 use Rattle.scenario.specs.Lines.{text_of, pass_text}
 use Rattle.scenario.proofs.Written.{nothing}
-use Rattle.scenario.proofs.Texts.{given_text, answer_text}
+use Rattle.scenario.proofs.Texts.{given_text_lem, answer_text_lem}
 use Rattle.scenario.proofs.lines.last_of.Statement.{statement}
 use Rattle.scenario.proofs.lines.last_of.Tie as tie
 
@@ -76,7 +76,7 @@ returns-7 c =
     let b = c.before.before.before.before.before.before in
     let o = b.args in
     rw c.before.before.enum-told7.given.1
-    (c.given.ensures ∙ ap (λ (v : List ℕ). penned (pen o.page.now o.at) v) (sym (given_text o.time o.t.station.address o.t.station.part (sixteen b))))
+    (c.given.ensures ∙ ap (λ (v : List ℕ). penned (pen o.page.now o.at) v) (sym (given_text_lem o.time o.t.station.address o.t.station.part (sixteen b))))
 
 returns-8 : tie.Need-returns-8
 unfolding pass_text tells
@@ -84,7 +84,7 @@ returns-8 c =
     let b = c.before.before.before.before.before.before in
     let o = b.args in
     rw c.before.before.enum-told8.given.1
-    (c.answer.ensures ∙ ap (λ (v : List ℕ). penned (pen o.page.now o.at) v) (sym (answer_text o.time o.t.station.address o.t.station.part (sixteen b))))
+    (c.answer.ensures ∙ ap (λ (v : List ℕ). penned (pen o.page.now o.at) v) (sym (answer_text_lem o.time o.t.station.address o.t.station.part (sixteen b))))
 
 pub last-of-spec : {M : Type 1} → statement M
 last-of-spec =
