@@ -6,21 +6,21 @@ ghost use Rattle.address.specs.Master.{rank_of, master_at, is_master, slave_of};
 ghost use Rattle.address.specs.Role.{role_of};
 
 // The place of a half in the row 0, 1, 3, 7, F.
-#[derive(Drop)]
+#[derive(Clone, Copy)]
 pub enum Index {
     At(u8),
     Nowhere,
 }
 
 // The rank of a master, 0 to 24; no other address has one.
-#[derive(Drop)]
+#[derive(Clone, Copy)]
 pub enum Rank {
     Of(u8),
     Nobody,
 }
 
 // What an address is used for; Never: AA and A9, which mean something else on the wire.
-#[derive(Drop)]
+#[derive(Clone, Copy)]
 pub enum Role {
     Master,
     Slave,

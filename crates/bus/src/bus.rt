@@ -7,7 +7,7 @@ use crate::refusal::{Refusal, Verdict};
 use station::phase::Told;
 use station::station::{Station, Turn};
 
-#[derive(Drop)]
+#[derive(Clone, Copy)]
 pub struct Bus {
     // Each station with what the last slot told it, in attach order.
     pub turns: [Turn; Bus::STATIONS],
@@ -24,14 +24,14 @@ pub struct Bus {
 }
 
 // The bus after a call; a refused call leaves it as it was.
-#[derive(Drop)]
+#[derive(Clone, Copy)]
 pub struct Answer {
     pub bus: Bus,
     pub verdict: Verdict,
 }
 
 // What a call makes of the one seat that it is about; a refused call leaves it as it was.
-#[derive(Drop)]
+#[derive(Clone, Copy)]
 pub struct Held {
     pub turn: Turn,
     pub verdict: Verdict,

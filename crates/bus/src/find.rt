@@ -7,7 +7,7 @@ use laws::Found;
 use station::station::{Station, Turn};
 
 // What is asked of a station.
-#[derive(Drop)]
+#[derive(Clone, Copy)]
 pub enum Query {
     // Whether it is the master attached with this address.
     Master(u8),

@@ -1,5 +1,5 @@
 // Why a call is turned down. The numbers are those of 01's table; 6 is not given any more (02, E8).
-#[derive(Drop)]
+#[derive(Clone, Copy)]
 pub enum Refusal {
     // 7
     Running,
@@ -25,7 +25,7 @@ pub enum Refusal {
     BookFull,
 }
 
-#[derive(Drop)]
+#[derive(Clone, Copy)]
 pub enum Verdict {
     Done,
     Refused(Refusal),

@@ -7,7 +7,7 @@ use crate::bus::Bus;
 use crate::{next, rest, slot, still, time};
 
 // The bus where a run stopped, and the slots that are left to run.
-#[derive(Drop)]
+#[derive(Clone, Copy)]
 pub struct Stop {
     pub bus: Bus,
     pub left: u32,

@@ -13,7 +13,7 @@ use station::phase::Told;
 use station::station::Turn;
 
 // What every event of a slot carries.
-#[derive(Drop)]
+#[derive(Clone, Copy)]
 pub struct Time {
     pub slot: u32,
     // From owns to free the slots since the owns line; outside a transfer 0.

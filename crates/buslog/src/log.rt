@@ -8,7 +8,7 @@ ghost use Rattle.buslog.specs.Read.{copying, read_into, record_into};
 use crate::{note, read};
 use bus::bus::Bus;
 
-#[derive(Drop)]
+#[derive(Clone, Copy)]
 pub struct Log {
     // Where the oldest record begins.
     pub start: usize,
@@ -18,7 +18,7 @@ pub struct Log {
     pub room: usize,
 }
 
-#[derive(Drop)]
+#[derive(Clone, Copy)]
 pub enum SetUp {
     Ready(Log),
     // 16: the buffer's length is outside the limits.
@@ -26,7 +26,7 @@ pub enum SetUp {
 }
 
 // What a later call says.
-#[derive(Drop)]
+#[derive(Clone, Copy)]
 pub enum Said {
     Done,
     // It was lent a buffer of another length than at set-up.
@@ -38,14 +38,14 @@ pub enum Said {
 }
 
 // The log after a call, and what the call says.
-#[derive(Drop)]
+#[derive(Clone, Copy)]
 pub struct Kept {
     pub log: Log,
     pub said: Said,
 }
 
 // How many bytes were copied, and what the call says.
-#[derive(Drop)]
+#[derive(Clone, Copy)]
 pub struct Copied {
     pub used: usize,
     pub said: Said,

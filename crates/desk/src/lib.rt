@@ -8,7 +8,7 @@ use scenario::pen::ROOM;
 // One byte more than a scenario may have tells a file that is too long.
 pub const INPUT: usize = 65537;
 
-#[derive(Drop)]
+#[derive(Clone, Copy)]
 pub enum Got {
     Bytes(usize),
     Failed,

@@ -12,7 +12,7 @@ use scenario::pen::ROOM;
 pub const LINE: usize = 84;
 
 // The place of the next record, and how many bytes of the buffer a fill took.
-#[derive(Drop)]
+#[derive(Clone, Copy)]
 pub struct Filled {
     pub next: usize,
     pub used: usize,

@@ -11,14 +11,14 @@ ghost use Rattle.pairs.specs.declared.Said.TheVariants.{Done, OtherLength};
 pub mod hear;
 
 // How many transfers were taken, and how many failed.
-#[derive(Drop)]
+#[derive(Clone, Copy)]
 pub struct Tally {
     pub taken: u32,
     pub failed: u32,
 }
 
 // One record of the table: source, destination, and their transfers.
-#[derive(Drop)]
+#[derive(Clone, Copy)]
 pub struct Pair {
     pub qq: u8,
     pub zz: u8,
@@ -26,14 +26,14 @@ pub struct Pair {
 }
 
 // Who owns the wire, as far as its lines have told.
-#[derive(Drop)]
+#[derive(Clone, Copy)]
 pub enum Owner {
     Unknown,
     Known(u8),
 }
 
 // What is known of the transfer under way: its owner, whether that was told taken, whether an answer was handed out.
-#[derive(Drop)]
+#[derive(Clone, Copy)]
 pub struct UnderWay {
     pub owner: Owner,
     pub told: bool,
@@ -41,7 +41,7 @@ pub struct UnderWay {
 }
 
 // What is kept beside the table: how many of its records are in use, all pairs that have none, the transfer under way.
-#[derive(Drop)]
+#[derive(Clone, Copy)]
 pub struct Counts {
     pub used: usize,
     pub others: Tally,
@@ -49,28 +49,28 @@ pub struct Counts {
 }
 
 // A transfer that has ended: its pair, and whether it counts as taken.
-#[derive(Drop)]
+#[derive(Clone, Copy)]
 pub struct Transfer {
     pub qq: u8,
     pub zz: u8,
     pub taken: bool,
 }
 
-#[derive(Drop)]
+#[derive(Clone, Copy)]
 pub enum Freed {
     Nothing,
     One(Transfer),
 }
 
 // A slot as it was heard: the counts before it, the transfer under way after it, and the transfer that its free line ended.
-#[derive(Drop)]
+#[derive(Clone, Copy)]
 pub struct Heard {
     pub before: Counts,
     pub current: UnderWay,
     pub freed: Freed,
 }
 
-#[derive(Drop)]
+#[derive(Clone, Copy)]
 pub enum Said {
     Done,
     // It was lent a table of another length than 64: nothing is changed.
@@ -78,13 +78,13 @@ pub enum Said {
 }
 
 // The counts after a call, and what the call says.
-#[derive(Drop)]
+#[derive(Clone, Copy)]
 pub struct Kept {
     pub counts: Counts,
     pub said: Said,
 }
 
-#[derive(Drop)]
+#[derive(Clone, Copy)]
 pub enum Asked {
     Counts(Tally),
     // 20: the pair has no record of its own.
@@ -94,7 +94,7 @@ pub enum Asked {
 }
 
 // A table kept by value, with its counts.
-#[derive(Drop)]
+#[derive(Clone, Copy)]
 pub struct Book {
     pub counts: Counts,
     pub table: [Pair; 64],

@@ -10,7 +10,7 @@ use walk::form::Form;
 use walk::walk::{Place, Task};
 
 // What is still to be printed: all of it, with what the form is; the fields; nothing.
-#[derive(Drop)]
+#[derive(Clone, Copy)]
 pub enum Stage {
     Opening(Form),
     Fields,
@@ -18,7 +18,7 @@ pub enum Stage {
 }
 
 // How far a scenario is printed.
-#[derive(Drop)]
+#[derive(Clone, Copy)]
 pub struct Printing {
     pub stage: Stage,
     pub place: Place,
@@ -26,7 +26,7 @@ pub struct Printing {
 }
 
 // How far it is printed after a fill, and how many bytes of the buffer it took.
-#[derive(Drop)]
+#[derive(Clone, Copy)]
 pub struct Filled {
     pub printing: Printing,
     pub used: usize,

@@ -12,7 +12,7 @@ use walk::walk::Place;
 pub const LINE: usize = 23;
 
 // How far a scenario is shown.
-#[derive(Drop)]
+#[derive(Clone, Copy)]
 pub struct Showing {
     pub place: Place,
     pub bus: Bus,
@@ -20,7 +20,7 @@ pub struct Showing {
 }
 
 // How far it is shown after a fill, and how many bytes of the buffer it took.
-#[derive(Drop)]
+#[derive(Clone, Copy)]
 pub struct Filled {
     pub showing: Showing,
     pub used: usize,

@@ -5,7 +5,7 @@ ghost use Rattle.sheet.specs.Field.{to_write, entry_of, no_field, field_at, is_b
 
 use value::value::DataType;
 
-#[derive(Drop)]
+#[derive(Clone, Copy)]
 pub enum Entry {
     // 01 to 04: a code to read as that type.
     Read(DataType),
@@ -18,7 +18,7 @@ pub enum Entry {
 }
 
 // A field, where its value begins, and where the next field begins.
-#[derive(Drop)]
+#[derive(Clone, Copy)]
 pub struct Placed {
     pub entry: Entry,
     pub from: usize,

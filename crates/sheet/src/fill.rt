@@ -10,7 +10,7 @@ use scenario::pen::ROOM;
 pub const LINE: usize = 175;
 
 // The place of the next field, and how many bytes of the buffer a fill took.
-#[derive(Drop)]
+#[derive(Clone, Copy)]
 pub struct Filled {
     pub next: usize,
     pub used: usize,

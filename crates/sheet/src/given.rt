@@ -6,7 +6,7 @@ ghost use Rattle.sheet.specs.Given.{word_of, of_kind, given_in};
 
 use value::value::Value;
 
-#[derive(Drop)]
+#[derive(Clone, Copy)]
 pub enum Given {
     Known(Value),
     // 17: a kind above 3.

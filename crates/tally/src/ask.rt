@@ -2,7 +2,7 @@
 ghost use Rattle.std.specs.Prelude.{◌≡◌};
 ghost use Rattle.tally.specs.Ask.{digit_of, byte_as, byte_of, pair_of, question_of};
 
-#[derive(Drop)]
+#[derive(Clone, Copy)]
 pub enum Question {
     All,
     // Source and destination.
@@ -11,7 +11,7 @@ pub enum Question {
 }
 
 // One word of them.
-#[derive(Drop)]
+#[derive(Clone, Copy)]
 pub enum Word {
     Byte(u8),
     Unreadable,

@@ -1,0 +1,6 @@
+-- `bus::bus::Bus::time_if_free` meets its contract.
+use Rattle.std.proofs.Common.{rules}
+use Rattle.bus.proofs.bus.Bus.time_if_free.Goals as goal
+
+pub returns : goal.returns
+returns c = simp c.since_owns.ensures

@@ -1,0 +1,11 @@
+-- `bus::still::turned` meets its contract.
+use Rattle.std.proofs.Common.{sym, ◌∙◌, rules}
+use Rattle.bus.proofs.PassedBy.{ready_so}
+use Rattle.bus.proofs.still.turned.Goals as goal
+
+pub returns-then-owes : goal.returns-then-owes
+returns-then-owes c = simp (c.hear.ensures, c.ready.ensures)
+
+pub returns-else-owes : goal.returns-else-owes
+returns-else-owes c =
+    simp (c.hear-else-owes.ensures, ready_so c.args.t.station (sym c.owes.ensures ∙ c.if-owes.false))
