@@ -48,7 +48,7 @@ pub slots_noted : (d : Ring) (room : ℕ) (all : List Line) (bs : List Bus) → 
 unfolding noted_slots all_lines
 slots_noted d room all [] h roomy.none = rw append-nil h
 slots_noted d room all (b ∷ bs) h (roomy.next r rs) =
-    rw append_assoc at (slots_noted _ room (all ++ events b) bs (slot_noted d room all b h r) rs)
+    rw append_assoc at (slots_noted (note_in d b).ring room (all ++ events b) bs (slot_noted d room all b h r) rs)
 
 -- ---- from the set-up on
 

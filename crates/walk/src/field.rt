@@ -104,6 +104,7 @@ fn run_value(s: &[u8], at: usize, len: u32) -> Field
 }
 
 // The value of a tag, `len` bytes from `at` on.
+#[tactic(auto, unfolding(crate::specs::Field::value_of))]
 fn value(s: &[u8], tag: u8, at: usize, len: u32) -> Field
     requires { at + 4 < 2 ^ 64 }
     ensures { result ≡ value_of s.now tag at len }

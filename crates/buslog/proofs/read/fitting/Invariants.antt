@@ -1,0 +1,15 @@
+-- `log::read::fitting` meets its contract.
+use borrow.Author.Rules.{rules}
+use Prim.Native.Nat.{◌≤◌}
+use native.Mathlib.Omega.{arith}
+use Rattle.buslog.specs.Read.{fitting_in}
+use Rattle.buslog.proofs.Going.{fewer, FitsTo, fits_first, fits_end, fits_full, fits_on}
+use Rattle.buslog.proofs.read.fitting.Given as goal
+
+abbrev pub invariant-loop-rest : goal.invariant-loop-rest
+invariant-loop-rest l =
+    (l.used ≤ l.n) × FitsTo l.n l.bytes l.used l.rest (fitting_in l.bytes l.n l.initial.rest)
+
+abbrev pub decreases-loop-rest : goal.decreases-loop-rest
+decreases-loop-rest l =
+    l.rest.held
