@@ -16,7 +16,7 @@ import sys
 
 CRATES = {"log": "buslog"}
 WORD = re.compile(r"[^\s(){}\[\].;,@\"«»`]+")
-DECLARED = re.compile(r"^(\s*)((?:pattern |abbrev |unfoldable |axiom |pub )*)([^\s:(){}\[\].;,]+) (?:\{[^{}]*\} )*: ")
+DECLARED = re.compile(r"^(\s*)((?:pattern |abbrev |unfoldable |axiom |pub )*)([^\s:(){}\[\].;,]+) (?:\{[^{}]*\} )*:(?: |$)")
 RECORD = re.compile(r"^\s*(?:pub )?(?:record|data) ")
 USE = re.compile(r"\buse Rattle\.(\w+\.(?:specs|proofs)\.[\w.]*\w)(?:\.\{([^}]*)\})?", re.S)
 FUNCTION = ("Proof.antt", "Answers.antt", "Invariants.antt")

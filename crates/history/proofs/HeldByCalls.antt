@@ -44,7 +44,7 @@ use Rattle.promises.proofs.AcceptedHeld.{queued_waits, turn_there}
 use Rattle.promises.proofs.Shared.FitKept.{reachable_fit, one_address}
 use Rattle.promises.proofs.Shared.Stations.{reachable_sane}
 use Rattle.promises.proofs.Shared.Uses.{on_reachable, reachable_more}
-use Rattle.promises.proofs.Refused.{refused-changes-nothing}
+use Rattle.promises.proofs.Refused.{refused_changes_nothing}
 use Rattle.promises.proofs.Shared.Seats.{Did, refused, attached, queued, replied, with_newcomer, holding_more, answering_more, attached_turn, turn_same, turn_other, attached_before, attached_newcomer, newcomer_seat, other_seat, did_attach, did_queue, did_reply, attached_slot, slot_seat}
 use Rattle.history.specs.Held.{is_done, Who, attached_after, in_seat, is_source, is_slave, held_after, no_answers, answers_with, answers_after}
 use Rattle.history.specs.Lines.{left_by}
@@ -239,7 +239,7 @@ module _ (b : Bus) (r : Reachable b) (i : ℕ) (l : i < attached_to b) where
 
       by : (v : Verdict) → verdict_on b c ≡ v → holds (after_call b c) ≡ cond (cond (is_done v) (is_source qq its) false) more (holds b)
       by Done e = done_at e (is_source qq its) refl
-      by (Refused x) e = ap holds (refused-changes-nothing b c e)
+      by (Refused x) e = ap holds (refused_changes_nothing b c e)
 
   -- reply
   slave_is : {a : ℕ} → is_slave a its ≡ true → SlaveAt a (turn_at b i)
@@ -300,7 +300,7 @@ module _ (b : Bus) (r : Reachable b) (i : ℕ) (l : i < attached_to b) where
 
       by : (v : Verdict) → verdict_on b c ≡ v → gives (after_call b c) ≡ cond (cond (is_done v) (is_slave a its) false) more (gives b)
       by Done v = done_at (reply_done b a pb sb bytes v) (is_slave a its) refl
-      by (Refused x) v = ap gives (refused-changes-nothing b c v)
+      by (Refused x) v = ap gives (refused_changes_nothing b c v)
 
   -- after any call
   module _ {ws : List Who} (w : Seated b ws) where

@@ -169,11 +169,11 @@ module _ (i : ℕ) where
 
 -- after any calls from power-on, what an attached station was told in the last slot, and its part: if it hands the part out,
 -- the symbols that it heard since its last reading began, quiet left out, are the wire form of that part
-pub handed-out-was-heard :
+pub handed_out_was_heard :
     -- any calls from power-on
     (cs : List Call)
     -- an attached station
     (i : ℕ) → i < attached_to (after_calls powered_on cs)
     -- what it was told, its part, and the symbols that it heard since its last reading began
     → WasHeard (turn_at (after_calls powered_on cs) i).told (station_at (after_calls powered_on cs) i).part (heard_since i cs)
-handed-out-was-heard cs i l = ((calls_seated i powered_on [] cs (on_seated i)).follows l).out
+handed_out_was_heard cs i l = ((calls_seated i powered_on [] cs (on_seated i)).follows l).out

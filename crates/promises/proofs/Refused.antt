@@ -20,15 +20,15 @@ as_it_was (queued _ _ _) e = done_not e
 as_it_was (replied _ _ _) e = done_not e
 
 -- whatever the call and the bus: where the verdict is a refusal, the bus is as it was
-pub refused-changes-nothing :
+pub refused_changes_nothing :
     -- any bus, and any call on it
     (b : Bus) (c : Call) {r : Refusal}
     -- which is refused
     → verdict_on b c ≡ Refused r
     -- the bus is as it was
     → after_call b c ≡ b
-refused-changes-nothing b (attach a m) e = as_it_was (did_attach b a m) e
-refused-changes-nothing b (queue qq zz pb sb bytes) e = as_it_was (did_queue b qq zz pb sb bytes) e
-refused-changes-nothing b (reply a pb sb bytes) e = as_it_was (did_reply b a pb sb bytes) e
-refused-changes-nothing b slot e = done_not e
-refused-changes-nothing b (heard h) e = done_not e
+refused_changes_nothing b (attach a m) e = as_it_was (did_attach b a m) e
+refused_changes_nothing b (queue qq zz pb sb bytes) e = as_it_was (did_queue b qq zz pb sb bytes) e
+refused_changes_nothing b (reply a pb sb bytes) e = as_it_was (did_reply b a pb sb bytes) e
+refused_changes_nothing b slot e = done_not e
+refused_changes_nothing b (heard h) e = done_not e

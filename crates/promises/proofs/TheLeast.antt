@@ -26,7 +26,7 @@ use Rattle.promises.specs.Slots.{slots_in}
 use Rattle.promises.proofs.Contest.Between.{KeepsAll, between_keeps}
 use Rattle.promises.proofs.Contest.Round.{bid_means, means_bid}
 use Rattle.promises.proofs.Shared.FitKept.{still_fit, slot_fit, reachable_fit, one_address}
-use Rattle.promises.proofs.Contest.Twelfth.{Begun, begun_heard, begun_between, attached_kept, hears_word, contender-owns-by-the-twelfth}
+use Rattle.promises.proofs.Contest.Twelfth.{Begun, begun_heard, begun_between, attached_kept, hears_word, contender_owns_by_the_twelfth}
 
 -- ---- there is one
 
@@ -172,5 +172,5 @@ least_rank_owns_by_the_twelfth {b} r c s before u j k calls v n =
     let w = some_least b₂ (ranked b₂ fit begun) j k in (
       w.0,
       record { contends = w.1; least = w.2; only = λ m d l. only_least b₂ fit begun w.0 m w.1 w.2 d l },
-      contender-owns-by-the-twelfth b f c s before u w.0 w.1 w.2 calls v n,
+      contender_owns_by_the_twelfth b f c s before u w.0 w.1 w.2 calls v n,
     )

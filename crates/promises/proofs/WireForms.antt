@@ -140,7 +140,7 @@ queued_read_back {b} r qq zz pb sb bytes d p array left =
     (queue_message b qq zz pb sb bytes d (reachable_fit r)) (load_sixteen bytes) left
 
 -- and no other symbols are read as this message
-pub queued-one-form :
+pub queued_one_form :
     -- any bus, and a queue call on it
     (b : Bus) (qq zz pb sb : ℕ) (bytes : List ℕ)
     -- that is not refused
@@ -160,11 +160,11 @@ pub queued-one-form :
     -- are exactly the telegram's wire form, and then those left unread
     → ss ≡ telegram_form (telegram_of qq zz pb sb bytes) ++ left
 unfolding telegram_form
-queued-one-form b qq zz pb sb bytes d p array ss left e h f r =
+queued_one_form b qq zz pb sb bytes d p array ss left e h f r =
     this_form MasterPart (telegram_of qq zz pb sb bytes) p array bytes (queue_carries b qq zz pb sb bytes d) ss left e h f r
 
 -- what a reply call accepts is read back from its wire form
-pub replied-read-back :
+pub replied_read_back :
     -- any bus, and a reply call on it, with a slave address, PB, SB and bytes
     (b : Bus) (a pb sb : ℕ) (bytes : List ℕ)
     -- that is not refused
@@ -176,11 +176,11 @@ pub replied-read-back :
     -- reading it gives a whole answer, its CRC right, with exactly these bytes (QQ, ZZ, PB, SB as they stood), and leaves unread what follows
     → GivesBack (head_of p) bytes left (read_all answer_start p (answer_form (load_of bytes) ++ left))
 unfolding answer_form
-replied-read-back b a pb sb bytes d p array left =
+replied_read_back b a pb sb bytes d p array left =
     gives_back AnswerPart (with_load p (load_of bytes)) p array bytes (reply_carries b a pb sb bytes d) tt (load_sixteen bytes) left
 
 -- and no other symbols are read as this answer
-pub replied-one-form :
+pub replied_one_form :
     -- any bus, and a reply call on it, with a slave address, PB, SB and bytes
     (b : Bus) (a pb sb : ℕ) (bytes : List ℕ)
     -- that is not refused
@@ -198,7 +198,7 @@ pub replied-one-form :
     -- are exactly the answer's wire form, and then those left unread
     → ss ≡ answer_form (load_of bytes) ++ left
 unfolding answer_form
-replied-one-form b a pb sb bytes d p array ss left e f r =
+replied_one_form b a pb sb bytes d p array ss left e f r =
     this_form AnswerPart (with_load p (load_of bytes)) p array bytes (reply_carries b a pb sb bytes d) ss left e refl f r
 
 -- ---- how long they are
@@ -215,7 +215,7 @@ answer_fits : (l : Load) → Sixteen l → Fits 35 (answer_form l) (holding (ans
 answer_fits l full = record { at_most = answer_at_most_35 l full; in_full = answer_in_full l full }
 
 -- what a queue call accepts has at most 39 symbols, and the buffer that its wire form is made in holds every one of them
-pub queued-fits :
+pub queued_fits :
     -- any bus, and a queue call on it
     (b : Bus) (qq zz pb sb : ℕ) (bytes : List ℕ)
     -- that is not refused
@@ -223,13 +223,13 @@ pub queued-fits :
     -- QQ ZZ PB SB, NN, all of these bytes, CRC
     → Fits 39 (form (qq ∷ zz ∷ pb ∷ sb ∷ []) bytes) (holding (telegram_form (telegram_of qq zz pb sb bytes)))
 unfolding telegram_form
-queued-fits b qq zz pb sb bytes d =
+queued_fits b qq zz pb sb bytes d =
     let t = telegram_of qq zz pb sb bytes in
     subst (λ (bs : List ℕ). Fits 39 (form (head_of t) bs) (holding (telegram_form t))) (queue_carries b qq zz pb sb bytes d)
     (part_fits t (load_sixteen bytes))
 
 -- what a reply call accepts has at most 35
-pub replied-fits :
+pub replied_fits :
     -- any bus, and a reply call on it, with a slave address, PB, SB and bytes
     (b : Bus) (a pb sb : ℕ) (bytes : List ℕ)
     -- that is not refused
@@ -237,7 +237,7 @@ pub replied-fits :
     -- NN, all of these bytes, CRC
     → Fits 35 (form [] bytes) (holding (answer_form (load_of bytes)))
 unfolding answer_form
-replied-fits b a pb sb bytes d =
+replied_fits b a pb sb bytes d =
     let l = load_of bytes in
     subst (λ (bs : List ℕ). Fits 35 (form [] bs) (holding (answer_form l))) (reply_carries b a pb sb bytes d)
     (answer_fits l (load_sixteen bytes))

@@ -107,12 +107,12 @@ unfolding byte_at pair_at entry_of field_at form_from form_of word_of of_kind gi
 sample_printed = refl
 
 -- an unknown tag and a cut field: `refused 14 4`; a value to write of four bytes: `refused 14 0`
-pub bad-printed :
+pub bad_printed :
     (values_output (0x01 ∷ 0x00 ∷ 0x01 ∷ 0x42 ∷ 0x06 ∷ []) ≡ 114 ∷ 101 ∷ 102 ∷ 117 ∷ 115 ∷ 101 ∷ 100 ∷ 32 ∷ 49 ∷ 52 ∷ 32 ∷ 52 ∷ 10 ∷ [])
     × (values_output (0x01 ∷ 0x00 ∷ 0x01 ∷ 0x42 ∷ 0x03 ∷ 0x00 ∷ 0x02 ∷ 0x80 ∷ []) ≡ 114 ∷ 101 ∷ 102 ∷ 117 ∷ 115 ∷ 101 ∷ 100 ∷ 32 ∷ 49 ∷ 52 ∷ 32 ∷ 52 ∷ 10 ∷ [])
     × (values_output (0x11 ∷ 0x00 ∷ 0x04 ∷ 0x00 ∷ 0x00 ∷ 0x00 ∷ 0x00 ∷ []) ≡ 114 ∷ 101 ∷ 102 ∷ 117 ∷ 115 ∷ 101 ∷ 100 ∷ 32 ∷ 49 ∷ 52 ∷ 32 ∷ 48 ∷ 10 ∷ [])
 unfolding byte_at pair_at entry_of field_at form_from form_of values_output digits_of last_digit decimal_text
-bad-printed = (refl, refl, refl)
+bad_printed = (refl, refl, refl)
 
 -- whatever is too long: `refused 15 65536`
 pub long_printed : (s : List ℕ) → most < length s → values_output s ≡ 114 ∷ 101 ∷ 102 ∷ 117 ∷ 115 ∷ 101 ∷ 100 ∷ 32 ∷ 49 ∷ 53 ∷ 32 ∷ 54 ∷ 53 ∷ 53 ∷ 51 ∷ 54 ∷ 10 ∷ []

@@ -317,7 +317,7 @@ begun_between b g [] u = g
 begun_between b g (c ∷ cs) (k, us) = begun_between (after_call b c) (begun_kept (between_keeps b g.ran k) g) cs us
 
 -- the twelve-slot clause for a station that is given as the least; `TheLeast` shows that there is one wherever any contend
-pub contender-owns-by-the-twelfth :
+pub contender_owns_by_the_twelfth :
     -- on a bus whose stations have fit addresses
     (b : Bus) → Fit b
     -- a SYN is heard in a slot, however it came about
@@ -332,5 +332,5 @@ pub contender-owns-by-the-twelfth :
     → (calls : List Call) → Each Undisturbed calls → slots_in (slot ∷ calls) ≡ 12
     -- it becomes owner in one of the twelve
     → OwnsInOneOf i (after_calls (after_call b c) before) (slot ∷ calls)
-contender-owns-by-the-twelfth b f c s before u i k least calls v n =
+contender_owns_by_the_twelfth b f c s before u i k least calls v n =
     begun_run (after_calls (after_call b c) before) (begun_between (after_call b c) (begun_heard b f s) before u) i k least calls v (omega arith)
