@@ -281,7 +281,7 @@ call_held b (heard h) k w = slot_held b h (reachable_more (heard h) w.reached k)
 calls_held : (i n : ℕ) (b : Bus) (cs : List Call) → ByteCalls cs → Held i n b → Held i (recount i b n cs) (after_calls b cs)
 unfolding after_calls recount
 calls_held i n b [] k w = w
-calls_held i n b (c ∷ cs) k w = calls_held i _ (after_call b c) cs k.1 (call_held b c k.0 w)
+calls_held i n b (c ∷ cs) k w = calls_held i (counted_on c (says is_owns (tells (turn_at (after_call b c) i))) n) (after_call b c) cs k.1 (call_held b c k.0 w)
 
 on_held : (i : ℕ) → Held i 0 powered_on
 unfolding powered_on attached_to

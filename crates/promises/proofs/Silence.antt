@@ -13,7 +13,7 @@ use Rattle.station.specs.Station.{syn, ready, says_at, says}
 use Rattle.station.specs.Table.{row, heard_nothing}
 use Rattle.station.specs.Turn.{goes}
 use Rattle.station.specs.declared.phase.Phase.{Phase}
-use Rattle.station.specs.declared.phase.Phase.TheVariants.{Silent, Reading}
+use Rattle.station.specs.declared.phase.Phase.TheVariants.{Silent, Reading, Sending, Awaiting, Judging, Owing, Releasing}
 use Rattle.station.specs.declared.phase.Sound.TheVariants.{Quiet, Symbol}
 use Rattle.station.specs.declared.station.Station.{Station}
 use Rattle.bus.specs.declared.bus.Bus.{Bus}
@@ -49,6 +49,11 @@ calm_says {s} l = rw (mute_ready s l.mute) (by_phase s.phase l.mute)
     by_phase : (p : Phase) → Mute p → says_at p s ≡ Quiet
     by_phase Silent silent = refl
     by_phase (Reading c p k) reading = no_bid s.admitted
+    by_phase (Sending _ _ _) m = elim m [ ]
+    by_phase (Awaiting _ _) m = elim m [ ]
+    by_phase (Judging _ _ _ _) m = elim m [ ]
+    by_phase Owing m = elim m [ ]
+    by_phase Releasing m = elim m [ ]
 
 calm_at : {s : Station} → Calm s → {p : Phase} → Mute p → Calm (row p heard_nothing (bids s) (over_now s)).station
 unfolding goes

@@ -49,7 +49,7 @@ unfolding after_calls
 calls_ran {n} b [] w = let e : n + 0 ≡ n = omega arith in rw e w
 calls_ran {n} b (c ∷ cs) w =
     let e : n + (slots_of c + slots_in cs) ≡ n + slots_of c + slots_in cs = omega arith in
-    rw e (calls_ran (after_call b c) cs (call_ran b c w))
+    rw e (calls_ran {n = n + slots_of c} (after_call b c) cs (call_ran b c w))
 
 from_power_on : (cs : List Call) → Ran (0 + slots_in cs) (after_calls powered_on cs)
 unfolding powered_on

@@ -28,7 +28,7 @@ use Rattle.wire.specs.declared.part.Part.TheVariants.{MasterPart}
 use Rattle.station.specs.declared.phase.Attempt.{Attempt}
 use Rattle.station.specs.declared.phase.Attempt.TheVariants.{First}
 use Rattle.station.specs.declared.phase.Phase.{Phase}
-use Rattle.station.specs.declared.phase.Phase.TheVariants.{Silent, Reading}
+use Rattle.station.specs.declared.phase.Phase.TheVariants.{Silent, Reading, Sending, Awaiting, Judging, Owing, Releasing}
 use Rattle.station.specs.declared.phase.Since.{Since}
 use Rattle.station.specs.declared.phase.Since.TheVariants.{Nothing, OneSymbol}
 use Rattle.station.specs.declared.phase.Sound.TheVariants.{Quiet, Symbol}
@@ -225,6 +225,11 @@ lost_says {a} {s} l = rw (mute_ready s l.mute) (by_phase s.phase l.mute)
     by_phase : (p : Phase) → Mute p → says_at p s ≡ Quiet
     by_phase Silent silent = refl
     by_phase (Reading c p k) reading = rw l.admitted
+    by_phase (Sending _ _ _) m = elim m [ ]
+    by_phase (Awaiting _ _) m = elim m [ ]
+    by_phase (Judging _ _ _ _) m = elim m [ ]
+    by_phase Owing m = elim m [ ]
+    by_phase Releasing m = elim m [ ]
 
 quiet_at : {a : ℕ} {s : Station} → Lost a s → {p : Phase} → Mute p → Lost a (row p heard_nothing (bids s) (over_now s)).station
 unfolding goes

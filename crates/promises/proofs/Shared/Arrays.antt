@@ -39,12 +39,12 @@ module _ {A : Type 0} {P : A → Type 0} where
   pub every_drop : {l : List A} → Every P l → (i : ℕ) → Every P (drop i l)
   every_drop qs zero = qs
   every_drop none (suc i) = none
-  every_drop (next q qs) (suc i) = every_drop qs i
+  every_drop (next {a = a} {l = l} q qs) (suc i) = every_drop {l = l} qs i
 
   pub every_take : {l : List A} → Every P l → (i : ℕ) → Every P (take i l)
   every_take qs zero = none
   every_take none (suc i) = none
-  every_take (next q qs) (suc i) = next q (every_take qs i)
+  every_take (next {a = a} {l = l} q qs) (suc i) = next q (every_take {l = l} qs i)
 
 abbrev pub AllFull : Outbox → Type 0
 AllFull o = Every Full o.slots

@@ -157,7 +157,7 @@ module _ {bid : Bool} {own : ℕ} {part oldest : Telegram} {xs : List ℕ} (kept
   quiet_next leaves_disturbed sending_kept s = told_nothing refl (silent (in_step_array s))
   quiet_next stops_disturbed sending_kept s = told_nothing refl (silent (in_step_array s))
 
-  pub symbol_next : {p q : Phase} {b : ℕ} {t : Told} {after : Telegram} → (kind_of b ≡ Syn → ⊥) → Moves bid own part p (Symbol b) t q
+  pub symbol_next : {p : Phase} {b : ℕ} {q : Phase} {t : Told} {after : Telegram} → (kind_of b ≡ Syn → ⊥) → Moves bid own part p (Symbol b) t q
       → PartAfter part oldest p (Symbol b) t q after → InStep part xs p → Next t after (since_after p xs (Symbol b)) q
   symbol_next n silent_on silent_kept s = told_nothing refl (silent (in_step_array s))
   symbol_next n owing_on owing_kept s = told_nothing refl (owing (in_step_array s))
