@@ -83,13 +83,15 @@ def home(module, maps):
 
 
 def meanings(place, text, maps):
-    """What a file declares and brings in from this repository: each name with the file that declares it."""
-    found = [(place, n) for n in maps.get(place, {})]
+    """What a file brings in from this repository and declares: each name with the file that declares it, the nearest last."""
+    whole, named = [], []
     for module, items in USE.findall(text):
         there = home(module, maps)
-        wanted = [i.split()[0] for i in items.split(",") if i.split()] if items else list(maps.get(there, {}))
-        found += [(there, n) for n in wanted if n in maps.get(there, {})]
-    return found
+        if items:
+            named += [(there, i.split()[0]) for i in items.split(",") if i.split() and i.split()[0] in maps.get(there, {})]
+        else:
+            whole += [(there, n) for n in maps.get(there, {})]
+    return whole + named + [(place, n) for n in maps.get(place, {})]
 
 
 def part(maps, files, fields):

@@ -8,10 +8,11 @@ use lib.ListN.{length}
 use Rattle.station.specs.declared.phase.Told.{Told}
 use Rattle.station.specs.declared.phase.Told.TheVariants.{Silence, Owns, Taken, Failed, Free, FailedFree, Given, Answered}
 use Rattle.bus.specs.declared.bus.Bus.{Bus}
+use Rattle.bus.specs.Slot.{spoken, slot_heard, slot_run}
 use Rattle.promises.specs.Calls.{Call, attach, queue, reply, slot, heard, after_call}
 use Rattle.promises.specs.Contest.{queued, Undisturbed, by_all, between, Each, Contends, LeastRank, OwnsInOneOf, this_slot, later}
 use Rattle.promises.specs.Slots.{slots_in}
-use Rattle.promises.proofs.Computed.TwelfthRun.{Line, lines, begins, ten_contends, ten_least, ten_owns_in_the_twelfth}
+use Rattle.promises.proofs.Computed.TwelfthRun.{Line, line, told, lines, begins, ten_contends, ten_least, ten_owns_in_the_twelfth}
 
 -- the calls of that run without the last slot
 abbrev pub eleven : List Call
@@ -48,8 +49,10 @@ skipped : (b : Bus) (c : Call) (cs : List Call) → NotYet (lines b (c ∷ cs)) 
 skipped b (attach a m) cs n = n
 skipped b (queue qq zz pb sb bytes) cs n = n
 skipped b (reply a pb sb bytes) cs n = n
-skipped b slot cs n = others _ (lines (after_call b slot) cs) n
-skipped b (heard h) cs n = others _ (lines (after_call b (heard h)) cs) n
+skipped b slot cs n =
+    others (line (spoken b) (told (slot_run b) 0) (told (slot_run b) 1) (told (slot_run b) 2)) (lines (after_call b slot) cs) n
+skipped b (heard h) cs n =
+    others (line h (told (slot_heard b h) 0) (told (slot_heard b h) 1) (told (slot_heard b h) 2)) (lines (after_call b (heard h)) cs) n
 
 some_line : (b : Bus) (cs : List Call) → 0 < length (lines b (cs ++ (slot ∷ [])))
 some_line b [] = omega arith
@@ -61,7 +64,7 @@ some_line b (heard h ∷ cs) = omega arith
 
 too_few : {b : Bus} {cs : List Call} → OwnsInOneOf 0 b cs → NotYet (lines b (cs ++ (slot ∷ []))) → ⊥
 too_few (this_slot {b} {cs} w) n =
-    let e = first _ (lines (after_call b slot) (cs ++ (slot ∷ []))) (some_line (after_call b slot) cs) n in
+    let e = first (line (spoken b) (told (slot_run b) 0) (told (slot_run b) 1) (told (slot_run b) 2)) (lines (after_call b slot) (cs ++ (slot ∷ []))) (some_line (after_call b slot) cs) n in
     true≢false (ap is_owns (sym w.told ∙ e))
 too_few (later {b} {c} {cs} w) n = too_few w (skipped b c (cs ++ (slot ∷ [])) n)
 

@@ -20,7 +20,7 @@ use Rattle.station.specs.declared.phase.Since.{Since}
 use Rattle.station.specs.declared.phase.Sound.{Sound}
 use Rattle.station.specs.declared.phase.Sound.TheVariants.{Quiet, Symbol}
 use Rattle.station.specs.declared.station.Station.{Station}
-use Rattle.station.proofs.Aa.{IsSyn, aa, NoSyn, symbol, by_sound_lem}
+use Rattle.station.proofs.Aa.{IsSyn, aa, NoSyn, symbol, by_sound}
 use Rattle.station.proofs.AfterSyn.{after_syn}
 use Rattle.station.proofs.Frame.{ready_lasting, ready_outbox, hears_lasting, admission_over}
 use Rattle.station.proofs.Possible.{Possible, ready_possible}
@@ -234,7 +234,7 @@ module _ (s₀ : Station) (kept : Kept s₀.outbox) (array : Sixteen s₀.part.l
   -- ---- any slot
 
   pub tells_now : (h : Sound) → report_of (hears s h).told ≡ observer.tells a m g ws book h
-  tells_now h = by_sound_lem h (by_syn h) (λ n. (comes_now h n).told)
+  tells_now h = by_sound h (by_syn h) (λ n. (comes_now h n).told)
     where
       by_syn : (h : Sound) → IsSyn h → report_of (hears s h).told ≡ observer.tells a m g ws book h
       by_syn h (aa {b} e) =
@@ -242,7 +242,7 @@ module _ (s₀ : Station) (kept : Kept s₀.outbox) (array : Sixteen s₀.part.l
           subst (λ (c : ℕ). report_of (hears s (Symbol c)).told ≡ observer.tells a m g ws book (Symbol c)) (sym i) comes_syn.told
 
   pub observed_later : (h : Sound) → Observed a m (later g (moment ws book h)) (hears s h).station
-  observed_later h = by_sound_lem h (by_syn h) (by_other h)
+  observed_later h = by_sound h (by_syn h) (by_other h)
     where
       by_syn : (h : Sound) → IsSyn h → Observed a m (later g (moment ws book h)) (hears s h).station
       by_syn h (aa {b} e) =
@@ -257,7 +257,7 @@ module _ (s₀ : Station) (kept : Kept s₀.outbox) (array : Sixteen s₀.part.l
 
   pub hands_now : (h : Sound) → HandsOut u h (observer.tells a m g ws book h) (hears s h).station.part
   unfolding observer.tells
-  hands_now h = by_sound_lem h (by_syn h) (λ n. by_other n (wins a m g.earlier g.now (moment ws book h)) refl)
+  hands_now h = by_sound h (by_syn h) (λ n. by_other n (wins a m g.earlier g.now (moment ws book h)) refl)
     where
       by_syn : (h : Sound) → IsSyn h → HandsOut u h (observer.tells a m g ws book h) (hears s h).station.part
       by_syn h (aa {b} e) =

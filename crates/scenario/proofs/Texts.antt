@@ -22,7 +22,7 @@ use Rattle.bus.specs.declared.time.Time.{Time}
 use Rattle.bus.proofs.Elapsed.{free_inside}
 use Rattle.scenario.specs.Pen.{hex_text}
 use Rattle.scenario.specs.Lines.{word_text, hexes_text, line_text, text_of, plain_text, counted_text, load_text, given_text, answer_text, slot_text, text_at, pass_text}
-use Rattle.scenario.proofs.Written.{left-of-first}
+use Rattle.scenario.proofs.Written.{left_of_first}
 
 -- the lines of some events, and behind them those of others
 pub text_append : (time : Time) (es fs : List Event) → text_at time (es ++ fs) ≡ text_at time es ++ text_at time fs
@@ -71,14 +71,14 @@ answer_text_lem time a t h = simp (counted_length t.load h, append-nil, append_a
 pub hexes_next : (l : List ℕ) (n i : ℕ) → n ≤ length l → i < n
     → hexes_text (drop i (take n l)) ≡ hex_text (get_or l i 0) ++ hexes_text (drop (i + 1) (take n l))
 unfolding hexes_text
-hexes_next l n i f h = ap (λ (v : List ℕ). hexes_text v) (left-of-first l n i 0 f h)
+hexes_next l n i f h = ap (λ (v : List ℕ). hexes_text v) (left_of_first l n i 0 f h)
 
 -- one station of the first n
 pub pass_next : (time : Time) (last : Bool) (l : List Turn) (n i : ℕ) (d : Turn) → n ≤ length l → i < n
     → text_at time (lines_of last (drop i (take n l))) ≡ pass_text time last (get_or l i d) ++ text_at time (lines_of last (drop (i + 1) (take n l)))
 unfolding pass_text
 pass_next time last l n i d f h =
-    ap (λ (v : List Turn). text_at time (lines_of last v)) (left-of-first l n i d f h)
+    ap (λ (v : List Turn). text_at time (lines_of last v)) (left_of_first l n i d f h)
     ∙ text_append time (those last (tells (get_or l i d))) (lines_of last (drop (i + 1) (take n l)))
 
 -- ---- the elapsed slots are shown on free lines alone

@@ -1,0 +1,14 @@
+-- `scenario::fill::Printing::start` meets its contract.
+use borrow.Author.Rules.{rules}
+use Rattle.scenario.specs.Fill.{started}
+use Rattle.scenario.proofs.fill.Printing.start.Goals as goal
+
+pub returns : goal.returns
+unfolding started
+returns c =
+    simp (
+      c.printed.ensures,
+      c.power_on.ensures,
+      c.before-2.ensures,
+      c.form_of.ensures,
+    )

@@ -1,0 +1,19 @@
+-- `scenario::fill::opening` meets its contract.
+use borrow.Author.Rules.{rules}
+use Rattle.scenario.proofs.Written.{nothing, both}
+use Rattle.scenario.proofs.fill.opening.Goals as goal
+
+-- LOST
+-- slice-aggregate-word : tie.Need-slice-aggregate-word
+-- slice-aggregate-word c = search rules
+
+pub returns-in-Opening : goal.returns-in-Opening
+returns-in-Opening c =
+    rw c.in-Opening.is
+    (both _ _ _ c.word-to.ensures c.form_line.ensures)
+
+pub returns-in-Fields : goal.returns-in-Fields
+returns-in-Fields c = rw c.in-Fields.is (nothing _)
+
+pub returns-in-Done : goal.returns-in-Done
+returns-in-Done c = rw c.in-Done.is (nothing _)

@@ -1,0 +1,8 @@
+-- `scenario::pen::decimal` meets its contract.
+use borrow.Author.Rules.{rules}
+use Rattle.scenario.specs.Pen.{decimal_text}
+use Rattle.scenario.proofs.pen.decimal.Goals as goal
+
+pub returns : goal.returns
+unfolding decimal_text
+returns c = c.digits.ensures
