@@ -17,5 +17,4 @@ pub mod Searching
 pub mod SlaveAddresses
 pub mod Stops
 pub mod Tallying
-pub mod Twins
 pub mod Worked

@@ -84,7 +84,7 @@ hex_above b mark h =
 pub cut_bytes : {w : List ℕ} (vs : List ℕ) → Above 32 w → cut 32 (w ++ hexes_text vs) ≡ w ∷ map hex_word vs
 unfolding hexes_text hex_text
 cut_bytes {w} [] h = rw append-nil (cut_last 32 h)
-cut_bytes {w} (v ∷ vs) h = cut_at 32 (hex_word v ++ hexes_text vs) h ∙ ap (λ (ws : List (List ℕ)). w ∷ ws) (cut_bytes vs (hex_above v 32 (omega arith)))
+cut_bytes {w} (v ∷ vs) h = cut_at 32 (hex_word v ++ hexes_text vs) h ∙ ap (λ (ws : List (List ℕ)). w ∷ ws) (cut_bytes {w = hex_word v} vs (hex_above v 32 (omega arith)))
 
 pub bytes_above : (vs : List ℕ) → Above 10 (hexes_text vs)
 unfolding hexes_text hex_text

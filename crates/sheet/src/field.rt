@@ -43,6 +43,7 @@ fn to_write(t: DataType, len: usize) -> Entry
     }
 }
 
+#[tactic(auto, unfolding(crate::specs::Field::entry_of))]
 fn entry_of(tag: u8, len: usize) -> Entry
     ensures { result ≡ entry_of tag len }
 {

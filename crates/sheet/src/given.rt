@@ -32,6 +32,7 @@ fn float_of(n: u32) -> f32
 }
 
 // 0 whole, 1 percent, 2 temperature, 3 missing.
+#[tactic(auto, unfolding(crate::specs::Given::of_kind))]
 fn of_kind(kind: u8, n: u32) -> Given
     ensures { result ≡ of_kind kind n }
 {

@@ -3,10 +3,6 @@ use borrow.Author.Rules.{rules}
 use Rattle.scenario.proofs.Written.{nothing, both}
 use Rattle.scenario.proofs.fill.opening.Goals as goal
 
--- LOST
--- slice-aggregate-word : tie.Need-slice-aggregate-word
--- slice-aggregate-word c = search rules
-
 pub returns-in-Opening : goal.returns-in-Opening
 returns-in-Opening c =
     rw c.in-Opening.is

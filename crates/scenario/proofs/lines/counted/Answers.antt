@@ -4,10 +4,6 @@ use Rattle.scenario.specs.Lines.{counted_text}
 use Rattle.scenario.proofs.Written.{both}
 use Rattle.scenario.proofs.lines.counted.Goals as goal
 
--- LOST
--- slice-aggregate-word : tie.Need-slice-aggregate-word
--- slice-aggregate-word c = search rules
-
 pub returns : goal.returns
 unfolding counted_text
 returns c =

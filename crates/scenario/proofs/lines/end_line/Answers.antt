@@ -4,14 +4,6 @@ use Rattle.scenario.specs.Lines.{end_text}
 use Rattle.scenario.proofs.Written.{both}
 use Rattle.scenario.proofs.lines.end_line.Goals as goal
 
--- LOST
--- slice-aggregate-word : tie.Need-slice-aggregate-word
--- slice-aggregate-word c = search rules
-
--- LOST
--- slice-aggregate-word-2 : tie.Need-slice-aggregate-word-2
--- slice-aggregate-word-2 c = search rules
-
 pub returns : goal.returns
 unfolding end_text
 returns c = both _ _ _ (both _ _ _ c.word-to.ensures c.decimal-end.ensures) c.word.ensures

@@ -2,9 +2,5 @@
 use borrow.Author.Rules.{rules}
 use Rattle.scenario.proofs.lines.failed.Goals as goal
 
--- LOST
--- slice-aggregate-counted : tie.Need-slice-aggregate-counted
--- slice-aggregate-counted c = search rules
-
 pub returns : goal.returns
 returns c = rw (← c.number.ensures) c.counted.ensures

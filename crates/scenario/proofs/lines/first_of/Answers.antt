@@ -6,22 +6,6 @@ use Rattle.scenario.proofs.Written.{nothing, both}
 use Rattle.scenario.proofs.Texts.{owns_text, taken_text, free_text, failed_text, failed_free_text}
 use Rattle.scenario.proofs.lines.first_of.Goals as goal
 
--- LOST
--- slice-aggregate-plain : tie.Need-slice-aggregate-plain
--- slice-aggregate-plain c = search rules
-
--- LOST
--- slice-aggregate-plain-2 : tie.Need-slice-aggregate-plain-2
--- slice-aggregate-plain-2 c = search rules
-
--- LOST
--- slice-aggregate-counted : tie.Need-slice-aggregate-counted
--- slice-aggregate-counted c = search rules
-
--- LOST
--- slice-aggregate-counted-2 : tie.Need-slice-aggregate-counted-2
--- slice-aggregate-counted-2 c = search rules
-
 pub returns-in-Silence : goal.returns-in-Silence
 unfolding pass_text tells text_of
 returns-in-Silence c = rw c.in-Silence.is (nothing _)

@@ -4,18 +4,6 @@ use Rattle.scenario.specs.Pen.{last_digit, digits_of, decimal_text}
 use Rattle.scenario.proofs.Written.{nothing, both}
 use Rattle.scenario.proofs.lines.form_line.Goals as goal
 
--- LOST
--- slice-aggregate-word : tie.Need-slice-aggregate-word
--- slice-aggregate-word c = search rules
-
--- LOST
--- slice-aggregate-word-2 : tie.Need-slice-aggregate-word-2
--- slice-aggregate-word-2 c = search rules
-
--- LOST
--- slice-aggregate-word-3 : tie.Need-slice-aggregate-word-3
--- slice-aggregate-word-3 c = search rules
-
 pub returns-in-Good : goal.returns-in-Good
 returns-in-Good c = rw c.in-Good.is (nothing _)
 

@@ -4,14 +4,6 @@ use Rattle.scenario.specs.Lines.{given_text}
 use Rattle.scenario.proofs.Written.{both}
 use Rattle.scenario.proofs.lines.given.Goals as goal
 
--- LOST
--- slice-aggregate-word : tie.Need-slice-aggregate-word
--- slice-aggregate-word c = search rules
-
--- LOST
--- slice-aggregate-word-2 : tie.Need-slice-aggregate-word-2
--- slice-aggregate-word-2 c = search rules
-
 pub returns : goal.returns
 unfolding given_text
 returns c =

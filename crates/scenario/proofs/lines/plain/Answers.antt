@@ -4,10 +4,6 @@ use Rattle.scenario.specs.Lines.{plain_text}
 use Rattle.scenario.proofs.Written.{both}
 use Rattle.scenario.proofs.lines.plain.Goals as goal
 
--- LOST
--- slice-aggregate-word : tie.Need-slice-aggregate-word
--- slice-aggregate-word c = search rules
-
 pub returns : goal.returns
 unfolding plain_text
 returns c = both _ _ _ (both _ _ _ c.begin-to.ensures c.word-end.ensures) c.word.ensures

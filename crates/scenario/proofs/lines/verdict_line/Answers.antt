@@ -3,14 +3,6 @@ use borrow.Author.Rules.{rules}
 use Rattle.scenario.proofs.Written.{nothing, both}
 use Rattle.scenario.proofs.lines.verdict_line.Goals as goal
 
--- LOST
--- slice-aggregate-word : tie.Need-slice-aggregate-word
--- slice-aggregate-word c = search rules
-
--- LOST
--- slice-aggregate-word-2 : tie.Need-slice-aggregate-word-2
--- slice-aggregate-word-2 c = search rules
-
 pub returns-in-Done : goal.returns-in-Done
 returns-in-Done c = rw c.in-Done.is (nothing _)
 

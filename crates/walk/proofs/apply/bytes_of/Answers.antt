@@ -4,14 +4,6 @@ use borrow.Author.Tests.{le-leb, lt-leb}
 use Rattle.walk.specs.Apply.{bytes_from}
 use Rattle.walk.proofs.apply.bytes_of.Goals as goal
 
--- LOST
--- part-result-start : tie.Need-slice-bounds-result-start
--- part-result-start c = search rules
-
--- LOST
--- part-result-end : tie.Need-slice-bounds-result-end
--- part-result-end c = search rules
-
 pub returns-then-from-to : goal.returns-then-from-to
 unfolding bytes_from
 returns-then-from-to c = simp (le-leb _ _ c.if-from-to.true, le-leb _ _ c.if-to-s.true)

@@ -1,0 +1,21 @@
+-- `diary::follow::follow` meets its contract.
+use mathlib.Core.Path.{◌≡◌, refl, sym, ◌∙◌}
+use mathlib.Core.Bool.{false}
+use native.Mathlib.Omega.{arith}
+use borrow.Author.Rules.{rules}
+use lib.ListN.{length}
+use Rattle.walk.specs.Field.{Bytes}
+use Rattle.walk.specs.Walk.{to_go}
+use Rattle.walk.proofs.Following.{FollowsTo, follows_first, follows_end, follows_on}
+use Rattle.walk.proofs.Going.{walked_nearer}
+use Rattle.buslog.specs.Ring.{ring}
+use Rattle.diary.specs.Follow.{noted_in, followed}
+use Rattle.diary.proofs.follow.follow.Given as goal
+
+abbrev pub invariant-loop-bus : goal.invariant-loop-bus
+invariant-loop-bus l =
+    Bytes l.s × (length l.bytes ≡ length l.initial.bytes) × FollowsTo noted_in l.bus l.place l.s (ring l.bytes l.to) (followed (ring l.initial.bytes l.initial.to) l.s)
+
+abbrev pub decreases-loop-bus : goal.decreases-loop-bus
+decreases-loop-bus l =
+    to_go l.place l.s

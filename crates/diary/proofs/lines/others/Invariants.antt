@@ -1,0 +1,20 @@
+-- `diary::lines::others` meets its contract.
+use mathlib.Core.Path.{◌≡◌, refl, ap, ◌∙◌}
+use borrow.Author.Rules.{rules}
+use mathlib.Core.List.{List}
+use Prim.Native.Nat.{ℕ, ◌+◌, ◌-◌}
+use native.Mathlib.Omega.{arith}
+use lib.ListN.{length, get_or, drop, drop_of_length-le}
+use Rattle.scenario.specs.Lines.{hexes_text}
+use Rattle.scenario.specs.Pen.{pen, penned, hex_text}
+use Rattle.laws.proofs.Lists.{left_of}
+use Rattle.scenario.proofs.Written.{piece, finished}
+use Rattle.diary.proofs.lines.others.Given as goal
+
+abbrev pub invariant-loop-i : goal.invariant-loop-i
+invariant-loop-i l =
+    penned (pen l.out l.to) (hexes_text (drop l.i l.rec)) ≡ penned (pen l.initial.out l.at) (hexes_text (drop 1 l.rec))
+
+abbrev pub decreases-loop-i : goal.decreases-loop-i
+decreases-loop-i l =
+    length l.rec - l.i

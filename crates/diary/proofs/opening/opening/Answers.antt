@@ -1,0 +1,11 @@
+-- `diary::opening::opening` meets its contract.
+use Rattle.scenario.specs.Pen.{last_digit, digits_of, decimal_text}
+use borrow.Author.Rules.{rules}
+use Rattle.diary.proofs.opening.opening.Goals as goal
+
+pub returns-in-Ready : goal.returns-in-Ready
+returns-in-Ready c = simp (c.form_line.ensures, c.in-Ready.is)
+
+pub returns-in-BadLength : goal.returns-in-BadLength
+unfolding decimal_text digits_of last_digit
+returns-in-BadLength c = rw c.in-BadLength.is c.word.ensures

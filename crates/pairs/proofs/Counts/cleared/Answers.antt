@@ -1,0 +1,8 @@
+-- `pairs::Counts::cleared` meets its contract.
+use Rattle.pairs.specs.Counts.{cleared}
+use borrow.Author.Rules.{rules}
+use Rattle.pairs.proofs.Counts.cleared.Goals as goal
+
+pub returns : goal.returns
+unfolding cleared
+returns c = simp c.uncounted.ensures

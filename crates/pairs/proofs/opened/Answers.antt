@@ -1,0 +1,8 @@
+-- `pairs::opened` meets its contract.
+use Rattle.pairs.specs.Table.{opened}
+use borrow.Author.Rules.{rules}
+use Rattle.pairs.proofs.opened.Goals as goal
+
+pub returns : goal.returns
+unfolding opened
+returns c = simp c.raise.ensures

@@ -1,0 +1,8 @@
+-- `pairs::raised` meets its contract.
+use Rattle.pairs.specs.Table.{raised}
+use borrow.Author.Rules.{rules}
+use Rattle.pairs.proofs.raised.Goals as goal
+
+pub returns : goal.returns
+unfolding raised
+returns c = simp c.raise.ensures

@@ -1,0 +1,9 @@
+-- `screen::fill::Showing::start` meets its contract.
+use Rattle.screen.specs.Fill.{started}
+use borrow.Author.Rules.{rules}
+use Rattle.screen.proofs.fill.Showing.start.Goals as goal
+
+pub returns : goal.returns
+unfolding started
+returns c =
+    simp (c.so_far.ensures, c.power_on.ensures, c.before-2.ensures)

@@ -1,0 +1,45 @@
+-- `sheet::field::field_at` meets its contract.
+use Rattle.walk.specs.Field.{byte_at}
+use borrow.Author.Tests.{lt-ltb, le-ltb}
+use Rattle.sheet.specs.Field.{field_at}
+use borrow.Author.Rules.{rules}
+use Rattle.sheet.proofs.field.field_at.Goals as goal
+
+pub returns-then-n-lt3 : goal.returns-then-n-lt3
+unfolding field_at
+returns-then-n-lt3 c =
+    simp (
+      c.no_field.ensures,
+      lt-ltb _ _ c.if-n-lt3.true,
+    )
+
+pub returns-then-n-at : goal.returns-then-n-at
+unfolding field_at
+returns-then-n-at c =
+    simp (
+      c.no_field-then-n-at.ensures,
+      lt-ltb _ _ c.if-n-at.true,
+      le-ltb _ _ c.if-n-lt3.false,
+    )
+
+pub returns-then-n-from : goal.returns-then-n-from
+unfolding field_at byte_at
+returns-then-n-from c =
+    simp (
+      c.no_field-then-n-from.ensures,
+      lt-ltb _ _ c.if-n-from.true,
+      ← c.pair-len.ensures,
+      le-ltb _ _ c.if-n-at.false,
+      le-ltb _ _ c.if-n-lt3.false,
+    )
+
+pub returns-else-n-from : goal.returns-else-n-from
+unfolding field_at byte_at
+returns-else-n-from c =
+    simp (
+      ← c.entry_of.ensures,
+      le-ltb _ _ c.if-n-from.false,
+      ← c.pair-len.ensures,
+      le-ltb _ _ c.if-n-at.false,
+      le-ltb _ _ c.if-n-lt3.false,
+    )

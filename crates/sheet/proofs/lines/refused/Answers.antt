@@ -1,0 +1,9 @@
+-- `sheet::lines::refused` meets its contract.
+use Rattle.scenario.proofs.Written.{both}
+use Rattle.sheet.specs.Lines.{refused_line}
+use borrow.Author.Rules.{rules}
+use Rattle.sheet.proofs.lines.refused.Goals as goal
+
+pub returns : goal.returns
+unfolding refused_line
+returns c = both _ _ _ (both _ _ _ c.word-to.ensures c.decimal-end.ensures) c.word.ensures
