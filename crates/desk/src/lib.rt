@@ -1,13 +1,14 @@
-// A scenario from a reader to a writer: read, then fill, write, again until it is done. What is filled is proved in `scenario` and
-// `printed`.
+// A scenario from a reader to a writer: read, then fill, write, again until it is done.
 #![tactic(auto)]
 
 pub mod arguments;
 pub mod failure;
 pub mod files;
 
-ghost use Rattle.std.specs.Prelude.{◌≡◌, ◌<◌, ◌≤◌, length, take, IfOk};
-ghost use Rattle.std.specs.Io.KnownBytes.{Consumes, IsAtEnd};
+ghost use Rattle.std.specs.Prelude.{◌≡◌, ◌<◌, ◌≤◌, length, take, IfOk, OnOk};
+ghost use Rattle.std.specs.Io.KnownBytes.{Appends, Consumes, IsAtEnd};
+ghost use Rattle.scenario.specs.Output.{output};
+ghost use Rattle.desk.specs.Playing.{Plays};
 
 pub use failure::Failure;
 use scenario::fill::Printing;
@@ -35,16 +36,17 @@ pub fn read<R: Read>(from: &mut R, buffer: &mut [u8]) -> io::Result<usize>
     Ok(got)
 }
 
-// Writes the first bytes of a buffer.
-pub fn write<W: Write>(to: &mut W, out: &[u8; ROOM], used: usize) -> Result<(), Failure> {
-    if used <= ROOM {
-        to.write_all(&out[..used]).map_err(Failure::Output)
-    } else {
-        Ok(())
-    }
+// Writes the first bytes of a buffer, all of them where it has no more.
+pub fn write<W: Write>(to: &mut W, out: &[u8; ROOM], used: usize) -> Result<(), Failure>
+    ensures { OnOk result (Appends (W.contents to.old) (W.contents to.new) (take used out.now)) }
+{
+    to.write_all(&out[..used.min(ROOM)])
+        .map_err(Failure::Output)
 }
 
-fn run<W: Write>(s: &[u8], to: &mut W) -> Result<(), Failure> {
+fn run<W: Write>(s: &[u8], to: &mut W) -> Result<(), Failure>
+    ensures { OnOk result (Appends (W.contents to.old) (W.contents to.new) (output s.now)) }
+{
     let mut out = [0u8; ROOM];
     let mut p = Printing::start(s);
     while !p.is_done() {
@@ -56,7 +58,9 @@ fn run<W: Write>(s: &[u8], to: &mut W) -> Result<(), Failure> {
 }
 
 // The scenario that a reader gives, run to its end.
-pub fn play<R: Read, W: Write>(from: &mut R, to: &mut W) -> Result<(), Failure> {
+pub fn play<R: Read, W: Write>(from: &mut R, to: &mut W) -> Result<(), Failure>
+    ensures { OnOk result (Plays output (R.remaining from.old) (R.remaining from.new) (W.contents to.old) (W.contents to.new)) }
+{
     let mut input = [0u8; INPUT];
     let n = read(from, &mut input).map_err(Failure::Input)?;
     run(&input[..n], to)
