@@ -7,6 +7,7 @@ pub mod files;
 
 ghost use Rattle.std.specs.Prelude.{◌≡◌, ◌<◌, ◌≤◌, length, take, IfOk, OnOk};
 ghost use Rattle.std.specs.Io.KnownBytes.{Appends, Consumes, IsAtEnd};
+ghost use Rattle.scenario.specs.Lines.{form_text};
 ghost use Rattle.scenario.specs.Output.{output};
 ghost use Rattle.desk.specs.Playing.{Plays};
 
@@ -15,6 +16,7 @@ use scenario::fill::Printing;
 use scenario::pen::ROOM;
 use std::io;
 use std::io::{Read, Write};
+use walk::form::Form;
 
 // One byte more than a scenario may have tells a file that is too long.
 pub const INPUT: usize = 65537;
@@ -42,6 +44,15 @@ pub fn write<W: Write>(to: &mut W, out: &[u8; ROOM], used: usize) -> Result<(), 
 {
     to.write_all(&out[..used.min(ROOM)])
         .map_err(Failure::Output)
+}
+
+// The line of a bad form, alone.
+pub fn refuse<W: Write>(f: Form, to: &mut W) -> Result<(), Failure>
+    ensures { OnOk result (Appends (W.contents to.old) (W.contents to.new) (form_text f)) }
+{
+    let mut out = [0u8; ROOM];
+    let used = scenario::lines::form_line(&mut out, 0, f);
+    write(to, &out, used)
 }
 
 fn run<W: Write>(s: &[u8], to: &mut W) -> Result<(), Failure>
