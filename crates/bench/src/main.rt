@@ -1,7 +1,9 @@
-// The bench program: a scenario on standard input, its lines on standard output (01, "Bench program").
+// The bench program: a scenario on standard input, its lines on standard output.
 #![tactic(auto)]
-use libc::STDIN_FILENO;
 
-fn main() {
-    desk::play(STDIN_FILENO, b"standard input");
+use desk::failure;
+use std::process::ExitCode;
+
+fn main(rt: HostRuntime) -> ExitCode {
+    failure::status(&rt.stderr(), desk::play(&mut rt.stdin(), &mut rt.stdout()))
 }

@@ -1,83 +1,78 @@
-// A scenario from a file descriptor to standard output: read, then fill, write, again until it is done. No contract can speak of
-// what is read and written; what is filled is proved in `scenario` and `printed`.
+// A scenario from a reader to a writer: read, then fill, write, again until it is done.
 #![tactic(auto)]
-use libc::STDOUT_FILENO;
+
+pub mod arguments;
+pub mod failure;
+pub mod files;
+
+ghost use Rattle.std.specs.Prelude.{◌≡◌, ◌<◌, ◌≤◌, length, take, IfOk, OnOk};
+ghost use Rattle.std.specs.Io.KnownBytes.{Appends, Consumes, IsAtEnd};
+ghost use Rattle.scenario.specs.Lines.{form_text};
+ghost use Rattle.scenario.specs.Output.{output};
+ghost use Rattle.desk.specs.Playing.{Plays};
+
+pub use failure::Failure;
 use scenario::fill::Printing;
 use scenario::pen::ROOM;
+use std::io;
+use std::io::{Read, Write};
+use walk::form::Form;
 
 // One byte more than a scenario may have tells a file that is too long.
 pub const INPUT: usize = 65537;
 
-#[derive(Clone, Copy)]
-pub enum Got {
-    Bytes(usize),
-    Failed,
-}
-
-// Reads until the buffer is full or the input ends.
-pub fn read(fd: i32, buffer: &mut [u8]) -> Got {
+// Reads until the buffer is full or the input ends, and answers how many bytes it read.
+pub fn read<R: Read>(from: &mut R, buffer: &mut [u8]) -> io::Result<usize>
+    ensures bound { IfOk result (λ n. n ≤ length buffer.new) }
+    ensures bytes { IfOk result (λ n. Consumes (R.remaining from.old) (R.remaining from.new) (take n buffer.new)) }
+    ensures end { IfOk result (λ n. n < length buffer.new → IsAtEnd (R.remaining from.new)) }
+{
     let mut got: usize = 0;
     while got < buffer.len() {
-        let more = libc::read(fd, &mut buffer[got..]);
-        if more < 0 {
-            return Got::Failed;
-        }
-        let n = io::count(more, &buffer[got..]);
+        let n = from.read(&mut buffer[got..])?;
         if n == 0 {
-            return Got::Bytes(got);
+            return Ok(got);
         }
         got += n;
     }
-    Got::Bytes(got)
+    Ok(got)
 }
 
-// Writes the first bytes of a buffer.
-fn written(out: [u8; ROOM], used: usize) -> bool {
-    if used <= ROOM {
-        io::write_all(STDOUT_FILENO, &out[..used])
-    } else {
-        true
-    }
+// Writes the first bytes of a buffer, all of them where it has no more.
+pub fn write<W: Write>(to: &mut W, out: &[u8; ROOM], used: usize) -> Result<(), Failure>
+    ensures { OnOk result (Appends (W.contents to.old) (W.contents to.new) (take used out.now)) }
+{
+    to.write_all(&out[..used.min(ROOM)])
+        .map_err(Failure::Output)
 }
 
-// The same, and on standard error why it cannot.
-pub fn wrote(out: [u8; ROOM], used: usize) -> bool {
-    if written(out, used) {
-        true
-    } else {
-        os::fail(b"standard output");
-        false
-    }
+// The line of a bad form, alone.
+pub fn refuse<W: Write>(f: Form, to: &mut W) -> Result<(), Failure>
+    ensures { OnOk result (Appends (W.contents to.old) (W.contents to.new) (form_text f)) }
+{
+    let mut out = [0u8; ROOM];
+    let used = scenario::lines::form_line(&mut out, 0, f);
+    write(to, &out, used)
 }
 
-fn run(s: &[u8]) {
+fn run<W: Write>(s: &[u8], to: &mut W) -> Result<(), Failure>
+    ensures { OnOk result (Appends (W.contents to.old) (W.contents to.new) (output s.now)) }
+{
     let mut out = [0u8; ROOM];
     let mut p = Printing::start(s);
-    loop {
-        if p.is_done() {
-            return;
-        }
+    while !p.is_done() {
         let f = p.fill(s, &mut out);
-        if wrote(out, f.used) {
-            p = f.printing;
-        } else {
-            return;
-        }
+        write(to, &out, f.used)?;
+        p = f.printing;
     }
+    Ok(())
 }
 
-fn run_first(input: [u8; INPUT], n: usize) {
-    if n <= INPUT {
-        run(&input[..n]);
-    }
-}
-
-// The scenario that a file descriptor gives, run to its end; `name` is what standard error calls it where it cannot be read.
-pub fn play(fd: i32, name: &[u8]) {
+// The scenario that a reader gives, run to its end.
+pub fn play<R: Read, W: Write>(from: &mut R, to: &mut W) -> Result<(), Failure>
+    ensures { OnOk result (Plays output (R.remaining from.old) (R.remaining from.new) (W.contents to.old) (W.contents to.new)) }
+{
     let mut input = [0u8; INPUT];
-    let got = read(fd, &mut input);
-    match got {
-        Got::Bytes(n) => run_first(input, n),
-        Got::Failed => os::fail(name),
-    }
+    let n = read(from, &mut input).map_err(Failure::Input)?;
+    run(&input[..n], to)
 }

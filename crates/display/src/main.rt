@@ -1,11 +1,16 @@
-// The program `display < SCENARIO`: after each field the slot number and who is next (02, E7).
+// The program `display < SCENARIO`: after each field the slot number and who is next.
 #![tactic(auto)]
-use libc::STDIN_FILENO;
 
-fn main() {
-    if os::arg_count() == 1 {
-        screendesk::play(STDIN_FILENO, b"standard input");
-    } else {
-        screendesk::usage();
+use desk::{arguments, failure};
+use std::process::ExitCode;
+
+fn main(rt: HostRuntime) -> ExitCode {
+    if arguments::count(&rt) != 1 {
+        screendesk::usage(&rt.stderr());
+        return ExitCode::SUCCESS;
     }
+    failure::status(
+        &rt.stderr(),
+        screendesk::play(&mut rt.stdin(), &mut rt.stdout()),
+    )
 }

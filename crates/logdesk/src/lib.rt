@@ -1,106 +1,99 @@
-// A scenario from a file descriptor, and its log's lines to standard output. No contract can speak of what is read and written; what
-// is noted and filled is proved in `log` and `diary`.
+// A scenario from a reader, and its log's lines to a writer. What is noted and filled is proved in `buslog` and `diary`.
 #![tactic(auto)]
-use desk::{Got, INPUT};
-use diary::length::{Length, PAST};
-use libc::STDERR_FILENO;
+
 use buslog::log::{Log, SetUp};
+use desk::{Failure, INPUT};
+use diary::length::{Length, PAST};
 use scenario::pen::ROOM;
+use std::io::{Read, Write};
 use walk::form::Form;
 
 // The line of what is refused, alone.
-fn refuse(s: SetUp, f: Form) {
+fn refuse<W: Write>(s: SetUp, f: Form, to: &mut W) -> Result<(), Failure> {
     let mut out = [0u8; ROOM];
     let used = diary::opening::opening(&mut out, s, f);
-    desk::wrote(out, used);
+    desk::write(to, &out, used)
 }
 
 // The lines of records, fill after fill.
-fn print(held: &[u8]) {
+fn print<W: Write>(held: &[u8], to: &mut W) -> Result<(), Failure> {
     let mut out = [0u8; ROOM];
     let mut at: usize = 0;
     while at < held.len() {
         let f = diary::lines::fill(held, at, &mut out);
-        if desk::wrote(out, f.used) {
-            at = f.next;
-        } else {
-            return;
-        }
+        desk::write(to, &out, f.used)?;
+        at = f.next;
     }
-}
-
-fn print_first(held: [u8; PAST], n: usize) {
-    if n <= PAST {
-        print(&held[..n]);
-    }
+    Ok(())
 }
 
 // Everything that the log holds: no log has more than the buffer it is read into.
-fn print_log(l: Log, bytes: &[u8]) {
+fn print_log<W: Write>(l: Log, bytes: &[u8], to: &mut W) -> Result<(), Failure> {
     let mut held = [0u8; PAST];
     let c = l.read(bytes, &mut held);
-    print_first(held, c.used);
+    if c.used <= PAST {
+        print(&held[..c.used], to)
+    } else {
+        Ok(())
+    }
 }
 
 // A scenario that is one is followed to its end.
-fn run(l: Log, bytes: &mut [u8], s: &[u8]) {
+fn run<W: Write>(l: Log, bytes: &mut [u8], s: &[u8], to: &mut W) -> Result<(), Failure> {
     let f = walk::form::form_of(s);
     match f {
         Form::Good => {
-            let to = diary::follow::follow(s, l, bytes);
-            print_log(to, bytes);
+            let after = diary::follow::follow(s, l, bytes);
+            print_log(after, bytes, to)
         }
-        Form::BadField(_) => refuse(SetUp::Ready(l), f),
-        Form::TooLong => refuse(SetUp::Ready(l), f),
+        Form::BadField(_) => refuse(SetUp::Ready(l), f, to),
+        Form::TooLong => refuse(SetUp::Ready(l), f, to),
     }
 }
 
-fn run_first(l: Log, bytes: &mut [u8], input: [u8; INPUT], n: usize) {
-    if n <= INPUT {
-        run(l, bytes, &input[..n]);
-    }
-}
-
-fn run_read(l: Log, bytes: &mut [u8], fd: i32, name: &[u8]) {
+fn run_read<R: Read, W: Write>(
+    l: Log,
+    bytes: &mut [u8],
+    from: &mut R,
+    to: &mut W,
+) -> Result<(), Failure> {
     let mut input = [0u8; INPUT];
-    let got = desk::read(fd, &mut input);
-    match got {
-        Got::Bytes(n) => run_first(l, bytes, input, n),
-        Got::Failed => os::fail(name),
-    }
+    let n = desk::read(from, &mut input).map_err(Failure::Input)?;
+    run(l, bytes, &input[..n], to)
 }
 
 // The length is looked at before anything is read.
-fn play_in(bytes: &mut [u8], fd: i32, name: &[u8]) {
+fn play_in<R: Read, W: Write>(bytes: &mut [u8], from: &mut R, to: &mut W) -> Result<(), Failure> {
     let s = Log::set_up(bytes);
     match s {
-        SetUp::Ready(l) => run_read(l, bytes, fd, name),
-        SetUp::BadLength => refuse(s, Form::Good),
+        SetUp::Ready(l) => run_read(l, bytes, from, to),
+        SetUp::BadLength => refuse(s, Form::Good, to),
     }
 }
 
-// The log has the first bytes of the buffer.
-fn play_first(bytes: &mut [u8], length: usize, fd: i32, name: &[u8]) {
-    let n = laws::at_most(length, bytes.len());
-    play_in(&mut bytes[..n], fd, name);
-}
-
-// The scenario that a file descriptor gives, run to its end with a log of so many bytes; `name` is what standard error calls it where
-// it cannot be read.
-pub fn play(length: usize, fd: i32, name: &[u8]) {
+// The scenario that a reader gives, run to its end with a log of so many bytes: the first of a buffer.
+pub fn play<R: Read, W: Write>(length: usize, from: &mut R, to: &mut W) -> Result<(), Failure> {
     let mut bytes = [0u8; PAST];
-    play_first(&mut bytes, length, fd, name);
+    let n = length.min(PAST);
+    play_in(&mut bytes[..n], from, to)
 }
 
-pub fn usage() {
-    io::write_all(STDERR_FILENO, b"usage: wirelog LENGTH < SCENARIO\n");
+pub fn usage(errors: &impl Print) {
+    let _ = println!(errors; "usage: wirelog LENGTH < SCENARIO");
 }
 
 // The same with the length as its user gives it.
-pub fn play_as(length: &[u8], fd: i32, name: &[u8]) {
-    let given = diary::length::length_of(length);
-    match given {
-        Length::Of(n) => play(n, fd, name),
-        Length::Unreadable => usage(),
+pub fn play_as<E: Print, R: Read, W: Write>(
+    errors: &E,
+    length: &[u8],
+    from: &mut R,
+    to: &mut W,
+) -> Result<(), Failure> {
+    match diary::length::length_of(length) {
+        Length::Of(n) => play(n, from, to),
+        Length::Unreadable => {
+            usage(errors);
+            Ok(())
+        }
     }
 }

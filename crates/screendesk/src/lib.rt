@@ -1,61 +1,47 @@
-// A scenario from a file descriptor, and the display's lines to standard output. No contract can speak of what is read and written;
-// what is filled is proved in `screen`.
+// A scenario from a reader, and the display's lines to a writer. What is filled is proved in `screen`.
 #![tactic(auto)]
-use desk::{Got, INPUT};
-use libc::STDERR_FILENO;
+
+use desk::{Failure, INPUT};
 use scenario::pen::ROOM;
 use screen::fill::Showing;
+use std::io::{Read, Write};
 use walk::form::Form;
 
 // The line of a bad form, alone.
-fn refuse(f: Form) {
+fn refuse<W: Write>(f: Form, to: &mut W) -> Result<(), Failure> {
     let mut out = [0u8; ROOM];
     let used = scenario::lines::form_line(&mut out, 0, f);
-    desk::wrote(out, used);
+    desk::write(to, &out, used)
 }
 
 // The lines of all fields, fill after fill.
-fn show(s: &[u8]) {
+fn show<W: Write>(s: &[u8], to: &mut W) -> Result<(), Failure> {
     let mut out = [0u8; ROOM];
     let mut p = Showing::start();
-    loop {
-        if p.done {
-            return;
-        }
+    while !p.done {
         let f = p.fill(s, &mut out);
-        if desk::wrote(out, f.used) {
-            p = f.showing;
-        } else {
-            return;
-        }
+        desk::write(to, &out, f.used)?;
+        p = f.showing;
     }
+    Ok(())
 }
 
-fn run(s: &[u8]) {
+fn run<W: Write>(s: &[u8], to: &mut W) -> Result<(), Failure> {
     let f = walk::form::form_of(s);
     match f {
-        Form::Good => show(s),
-        Form::BadField(_) => refuse(f),
-        Form::TooLong => refuse(f),
+        Form::Good => show(s, to),
+        Form::BadField(_) => refuse(f, to),
+        Form::TooLong => refuse(f, to),
     }
 }
 
-fn run_first(input: [u8; INPUT], n: usize) {
-    if n <= INPUT {
-        run(&input[..n]);
-    }
-}
-
-// The scenario that a file descriptor gives; `name` is what standard error calls it where it cannot be read.
-pub fn play(fd: i32, name: &[u8]) {
+// The scenario that a reader gives.
+pub fn play<R: Read, W: Write>(from: &mut R, to: &mut W) -> Result<(), Failure> {
     let mut input = [0u8; INPUT];
-    let got = desk::read(fd, &mut input);
-    match got {
-        Got::Bytes(n) => run_first(input, n),
-        Got::Failed => os::fail(name),
-    }
+    let n = desk::read(from, &mut input).map_err(Failure::Input)?;
+    run(&input[..n], to)
 }
 
-pub fn usage() {
-    io::write_all(STDERR_FILENO, b"usage: display < SCENARIO\n");
+pub fn usage(errors: &impl Print) {
+    let _ = println!(errors; "usage: display < SCENARIO");
 }

@@ -1,57 +1,46 @@
-// A sheet from a file descriptor, and its lines to standard output. No contract can speak of what is read and written; what is filled
-// is proved in `sheet`.
+// A sheet from a reader, and its lines to a writer. What is filled is proved in `sheet`.
 #![tactic(auto)]
-use desk::{Got, INPUT};
-use libc::STDERR_FILENO;
+
+use desk::{Failure, INPUT};
 use scenario::pen::ROOM;
+use std::io::{Read, Write};
 use walk::form::Form;
 
 // The line of a bad form, alone.
-fn refuse(f: Form) {
+fn refuse<W: Write>(f: Form, to: &mut W) -> Result<(), Failure> {
     let mut out = [0u8; ROOM];
     let used = scenario::lines::form_line(&mut out, 0, f);
-    desk::wrote(out, used);
+    desk::write(to, &out, used)
 }
 
 // The lines of all fields, fill after fill.
-fn print(s: &[u8]) {
+fn print<W: Write>(s: &[u8], to: &mut W) -> Result<(), Failure> {
     let mut out = [0u8; ROOM];
     let mut at: usize = 0;
     while at < s.len() {
         let f = sheet::fill::fill(s, at, &mut out);
-        if desk::wrote(out, f.used) {
-            at = f.next;
-        } else {
-            return;
-        }
+        desk::write(to, &out, f.used)?;
+        at = f.next;
     }
+    Ok(())
 }
 
-fn run(s: &[u8]) {
+fn run<W: Write>(s: &[u8], to: &mut W) -> Result<(), Failure> {
     let f = sheet::form::form_of(s);
     match f {
-        Form::Good => print(s),
-        Form::BadField(_) => refuse(f),
-        Form::TooLong => refuse(f),
+        Form::Good => print(s, to),
+        Form::BadField(_) => refuse(f, to),
+        Form::TooLong => refuse(f, to),
     }
 }
 
-fn run_first(input: [u8; INPUT], n: usize) {
-    if n <= INPUT {
-        run(&input[..n]);
-    }
-}
-
-// The sheet that a file descriptor gives; `name` is what standard error calls it where it cannot be read.
-pub fn play(fd: i32, name: &[u8]) {
+// The sheet that a reader gives.
+pub fn play<R: Read, W: Write>(from: &mut R, to: &mut W) -> Result<(), Failure> {
     let mut input = [0u8; INPUT];
-    let got = desk::read(fd, &mut input);
-    match got {
-        Got::Bytes(n) => run_first(input, n),
-        Got::Failed => os::fail(name),
-    }
+    let n = desk::read(from, &mut input).map_err(Failure::Input)?;
+    run(&input[..n], to)
 }
 
-pub fn usage() {
-    io::write_all(STDERR_FILENO, b"usage: values < FIELDS\n");
+pub fn usage(errors: &impl Print) {
+    let _ = println!(errors; "usage: values < FIELDS");
 }

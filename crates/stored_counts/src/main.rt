@@ -1,15 +1,12 @@
 // Stored scenarios, each counted as `counts` counts it. Its arguments are alternately a question and a file name.
 #![tactic(auto)]
-use libc::STDOUT_FILENO;
+
+use desk::{Failure, files};
+use std::process::ExitCode;
 use tally::ask::Question;
 
-fn main() {
-    let n = os::arg_count();
-    let mut i: usize = 0;
-    while i < n / 2 {
-        count_named(2 * i + 1, 2 * i + 2);
-        i += 1;
-    }
+fn main(rt: HostRuntime) -> ExitCode {
+    files::each_pair(rt, |word, path| count_named(rt, word, path))
 }
 
 // Two addresses joined by a colon; any other length is `all`.
@@ -21,22 +18,8 @@ fn asked(word: &[u8]) -> Question {
     }
 }
 
-// The arguments that say the question and the file.
-fn count_named(question: usize, file: usize) {
-    let mut word = io::buffer();
-    let mut path = io::buffer();
-    let w = os::arg(question, &mut word);
-    let p = os::arg(file, &mut path);
-    io::write_all(STDOUT_FILENO, b"== ");
-    io::write_all(STDOUT_FILENO, &word[..w]);
-    io::write_all(STDOUT_FILENO, b" ");
-    io::write_all(STDOUT_FILENO, &path[..p]);
-    io::write_all(STDOUT_FILENO, b"\n");
-    let fd = os::open_read(&path[..p]);
-    if fd < 0 {
-        os::fail(&path[..p]);
-        return;
-    }
-    countdesk::play(asked(&word[..w]), fd, &path[..p]);
-    libc::close(fd);
+fn count_named(rt: HostRuntime, word: &[u8], path: &[u8]) -> Result<(), Failure> {
+    files::title(&mut rt.stdout(), &[word, path])?;
+    let mut file = files::open(&rt, path)?;
+    countdesk::play(&rt.stderr(), asked(word), &mut file, &mut rt.stdout())
 }

@@ -1,27 +1,15 @@
 // The stored scenarios, each named and shown as `display` shows it. Its arguments are their file names.
 #![tactic(auto)]
-use libc::STDOUT_FILENO;
 
-fn main() {
-    let n = os::arg_count();
-    let mut i: usize = 1;
-    while i < n {
-        display_named(i);
-        i += 1;
-    }
+use desk::{Failure, files};
+use std::process::ExitCode;
+
+fn main(rt: HostRuntime) -> ExitCode {
+    files::each(rt, |path| display_named(rt, path))
 }
 
-fn display_named(i: usize) {
-    let mut path = io::buffer();
-    let length = os::arg(i, &mut path);
-    io::write_all(STDOUT_FILENO, b"== ");
-    io::write_all(STDOUT_FILENO, &path[..length]);
-    io::write_all(STDOUT_FILENO, b"\n");
-    let fd = os::open_read(&path[..length]);
-    if fd < 0 {
-        os::fail(&path[..length]);
-        return;
-    }
-    screendesk::play(fd, &path[..length]);
-    libc::close(fd);
+fn display_named(rt: HostRuntime, path: &[u8]) -> Result<(), Failure> {
+    files::title(&mut rt.stdout(), &[path])?;
+    let mut file = files::open(&rt, path)?;
+    screendesk::play(&mut file, &mut rt.stdout())
 }

@@ -1,11 +1,16 @@
-// The program `values < FIELDS`: codes read, values written and blocks of shares, a line each (02, E2).
+// The program `values < FIELDS`: codes read, values written and blocks of shares, a line each.
 #![tactic(auto)]
-use libc::STDIN_FILENO;
 
-fn main() {
-    if os::arg_count() == 1 {
-        sheetdesk::play(STDIN_FILENO, b"standard input");
-    } else {
-        sheetdesk::usage();
+use desk::{arguments, failure};
+use std::process::ExitCode;
+
+fn main(rt: HostRuntime) -> ExitCode {
+    if arguments::count(&rt) != 1 {
+        sheetdesk::usage(&rt.stderr());
+        return ExitCode::SUCCESS;
     }
+    failure::status(
+        &rt.stderr(),
+        sheetdesk::play(&mut rt.stdin(), &mut rt.stdout()),
+    )
 }

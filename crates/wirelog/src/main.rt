@@ -1,13 +1,17 @@
-// The program `wirelog LENGTH < SCENARIO`: the records that a log of so many bytes holds at the scenario's end, a line each (02, E1).
+// The program `wirelog LENGTH < SCENARIO`: the records that a log of so many bytes holds at the scenario's end, a line each.
 #![tactic(auto)]
-use libc::STDIN_FILENO;
 
-fn main() {
-    let mut word = io::buffer();
-    let n = os::arg(1, &mut word);
-    if os::arg_count() == 2 {
-        logdesk::play_as(&word[..n], STDIN_FILENO, b"standard input");
-    } else {
-        logdesk::usage();
+use desk::arguments::WORD;
+use desk::{arguments, failure};
+use std::process::ExitCode;
+
+fn main(rt: HostRuntime) -> ExitCode {
+    if arguments::count(&rt) != 2 {
+        logdesk::usage(&rt.stderr());
+        return ExitCode::SUCCESS;
     }
+    let mut word = [0u8; WORD];
+    let n = arguments::get(&rt, 1, &mut word);
+    let done = logdesk::play_as(&rt.stderr(), &word[..n], &mut rt.stdin(), &mut rt.stdout());
+    failure::status(&rt.stderr(), done)
 }

@@ -1,0 +1,13 @@
+use Rattle.std.proofs.Common.{refl, subst, arith}
+use Rattle.std.specs.Result.{OnOk}
+use Rattle.std.specs.Io.KnownBytes.{Appends}
+use Rattle.scenario.specs.Lines.{form_text}
+use Rattle.scenario.proofs.Fits.{form_most}
+use Rattle.desk.proofs.Written.{text_put}
+use Rattle.desk.proofs.refuse.Goals as goal
+
+pub returns : goal.returns
+returns g c =
+    let line = c.form_line-used in
+    let put = text_put _ (form_text c.args.f) line.new.page line.result refl (omega (arith, form_most c.args.f)) line.ensures in
+    subst (λ t. OnOk c.write.result (Appends (g.W.Write.contents c.args.to.now) (g.W.Write.contents c.write.new.to) t)) put c.write.ensures

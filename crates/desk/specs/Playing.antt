@@ -1,0 +1,15 @@
+-- What a program reads, and what it writes for it. Assumes nothing.
+use Rattle.std.specs.Prelude.{ℕ, ◌≤◌, ◌<◌, List, length, Option}
+use Rattle.std.specs.Io.KnownBytes.{Consumes, Appends, IsAtEnd}
+
+-- one byte more than a scenario may have
+abbrev pub input_room : ℕ
+input_room = 65537
+
+-- a reader gave some bytes: as many as there is room for, or all that it had left
+abbrev pub Reads : Option (List ℕ) → Option (List ℕ) → List ℕ → Type 0
+Reads old new s = Consumes old new s × (length s ≤ input_room) × (length s < input_room → IsAtEnd new)
+
+-- a writer gained what is to be printed for the bytes that a reader gave; text says what that is
+abbrev pub Plays : (List ℕ → List ℕ) → Option (List ℕ) → Option (List ℕ) → Option (List ℕ) → Option (List ℕ) → Type 0
+Plays text given left held gained = (s : List ℕ) × Reads given left s × Appends held gained (text s)

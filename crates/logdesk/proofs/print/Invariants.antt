@@ -1,0 +1,6 @@
+-- `logdesk::print` ends: each fill gets on.
+use Rattle.std.proofs.Common.{◌-◌, length}
+use Rattle.logdesk.proofs.print.Given as goal
+
+abbrev pub decreases-loop-out : goal.decreases-loop-out
+decreases-loop-out g l = length l.held - l.at
