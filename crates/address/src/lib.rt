@@ -1,5 +1,6 @@
 // Addresses of the bus: class, sub-address and rank of a master, its slave address, and the role of each address (01, "Addresses").
 #![tactic(auto)]
+
 ghost use Rattle.std.specs.Prelude.{◌≡◌};
 ghost use Rattle.address.specs.Half.{half_index, half_at, class_of, sub_of};
 ghost use Rattle.address.specs.Master.{rank_of, master_at, is_master, slave_of};

@@ -1,5 +1,6 @@
 // Up to 32 stations on one wire: the calls of its users, the generator, a slot, and a run of slots.
 #![tactic(auto)]
+
 mod attach;
 pub mod bus;
 pub mod find;

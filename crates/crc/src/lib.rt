@@ -1,5 +1,6 @@
 // The check symbol of a part: one symbol into the register, and the register after all symbols.
 #![tactic(auto)]
+
 ghost use Rattle.std.specs.Prelude.{◌≡◌};
 ghost use Rattle.crc.specs.Crc.{times_x, crc_step, crc_of};
 

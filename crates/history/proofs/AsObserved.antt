@@ -12,7 +12,7 @@ use Rattle.station.specs.Events.{tells}
 use Rattle.wire.specs.declared.part.Telegram.{Telegram}
 use Rattle.station.specs.Outbox.{waiting}
 use Rattle.station.specs.Replies.{answer_for}
-use Rattle.station.specs.Station.{fresh, ready, says}
+use Rattle.station.specs.Station.{fresh, ready}
 use Rattle.station.specs.declared.phase.Sound.{Sound}
 use Rattle.station.specs.declared.station.Station.{Station}
 use Rattle.station.specs.declared.station.Turn.{Turn}

@@ -1,5 +1,6 @@
 // What the rooms above share: where a search found something, a count kept to the room, and the laws in proofs/.
 #![tactic(auto)]
+
 ghost use Rattle.std.specs.Prelude.{◌≡◌};
 ghost use Rattle.laws.specs.AtMost.{at_most};
 

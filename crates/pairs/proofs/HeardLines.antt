@@ -9,7 +9,7 @@ use Rattle.laws.proofs.Lists.{left_of_first}
 use Rattle.station.specs.Events.{Event, tells}
 use Rattle.station.specs.declared.station.Turn.{Turn}
 use Rattle.bus.specs.Bus.{attached_to}
-use Rattle.bus.specs.Events.{those, lines_of, tellings, events}
+use Rattle.bus.specs.Events.{those, lines_of, tellings}
 use Rattle.bus.specs.declared.bus.Bus.{Bus}
 use Rattle.bus.proofs.EventsTold.{untimed}
 use Rattle.pairs.specs.declared.Counts.{Counts}
@@ -17,7 +17,7 @@ use Rattle.pairs.specs.declared.Freed.{Freed}
 use Rattle.pairs.specs.declared.Freed.TheVariants.{Nothing}
 use Rattle.pairs.specs.declared.Heard.{Heard}
 use Rattle.pairs.specs.declared.UnderWay.{UnderWay}
-use Rattle.pairs.specs.Hear.{heard, heard_as, heard_events, events_in, heard_of}
+use Rattle.pairs.specs.Hear.{heard, heard_as, heard_events, heard_of}
 
 -- the transfer under way, as it is known by then
 pub now_known : (c : Counts) (f : Freed) {u v : UnderWay} {r : Heard} → r ≡ heard c u f → u ≡ v → r ≡ heard c v f

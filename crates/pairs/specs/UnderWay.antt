@@ -1,5 +1,5 @@
 -- What the lines tell of the transfer under way (02, E9). Assumes nothing.
-use Rattle.std.specs.Prelude.{Bool, true, false, cond, [], ℕ, eqb, get_or}
+use Rattle.std.specs.Prelude.{Bool, true, false, cond, ℕ, eqb}
 use Rattle.address.specs.Role.{role_of}
 use Rattle.address.specs.declared.Role.{Role}
 use Rattle.address.specs.declared.Role.TheVariants.{Master, Slave, Broadcast, Never}

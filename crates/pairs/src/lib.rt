@@ -2,6 +2,7 @@
 // user lends. Functions under a line `// twin` have a slice or an array of structs lent on, which the borrow checker does not cover:
 // they are proved by the derivation of a twin (tools/twin/README.md). All others take records by value, and are covered.
 #![tactic(auto)]
+
 ghost use Rattle.std.specs.Prelude.{◌≡◌};
 ghost use Rattle.laws.specs.AtMost.{at_most};
 ghost use Rattle.pairs.specs.Counts.{counts, up, raise, in_use};

@@ -1,5 +1,6 @@
 // Who is next: one bit for each of the 25 ranks, and the master whose bit is the lowest (02, E7).
 #![tactic(auto)]
+
 ghost use Rattle.std.specs.Prelude.{◌≡◌};
 ghost use Rattle.address.specs.Master.{rank_of};
 ghost use Rattle.ranks.specs.Bits.{bit_of, with_rank, least_of};

@@ -1,10 +1,10 @@
 -- For every sequence of calls from power-on, with a table that listens from any moment on: after whatever is called and cleared then, its
 -- records and its others are a recount of all transfers that ended since, from the lines alone (02, E9). Assumes nothing.
-use mathlib.Core.Path.{◌≡◌, refl, sym, ap, subst, ◌∙◌}
-use mathlib.Core.Bool.{Bool, true, false, false≢true}
+use mathlib.Core.Path.{◌≡◌, refl, sym, subst, ◌∙◌}
+use mathlib.Core.Bool.{true, false, false≢true}
 use mathlib.Core.List.{List, [], ◌∷◌, ◌++◌}
 use mathlib.Core.Logic.{◌↔◌}
-use Prim.Native.Nat.{ℕ, ◌<◌}
+use Prim.Native.Nat.{ℕ}
 use lib.ListN.{length}
 use Rattle.station.specs.Events.{Event}
 use Rattle.station.specs.Phase.{owner}
@@ -12,7 +12,7 @@ use Rattle.station.specs.Station.{fresh}
 use Rattle.station.specs.declared.phase.Sound.{Sound}
 use Rattle.station.specs.declared.station.Turn.{Turn}
 use Rattle.bus.specs.Attach.{newcomer}
-use Rattle.bus.specs.Bus.{powered_on, attached_to, turn_at}
+use Rattle.bus.specs.Bus.{powered_on}
 use Rattle.bus.specs.declared.bus.Answer.{Answer}
 use Rattle.bus.specs.declared.bus.Bus.{Bus}
 use Rattle.promises.specs.Calls.{Call, attach, queue, reply, slot, heard, after_call, after_calls, ByteCall, ByteCalls, Reachable}
@@ -42,7 +42,7 @@ use Rattle.pairs.proofs.EachOnce.{each_transfer_once, ended_count}
 use Rattle.pairs.proofs.Recounted.{fresh_tallied, counted_current, one_more, none_more}
 use Rattle.recount.specs.Listening.{Act, call, clear, Beside, beside, listens, after_act, after_acts, begins, Lines, lines, lines_of, lines_after, bus_after, heard_by, ended_since, calls_among}
 use Rattle.recount.proofs.Follows.{Follows, from_nothing}
-use Rattle.recount.proofs.SlotHeard.{Heeds, grown, RightlyHeard, rightly_heard}
+use Rattle.recount.proofs.SlotHeard.{Heeds, grown, rightly_heard}
 use Rattle.recount.proofs.Station.{may_yet}
 
 -- the bus is one that calls bring about, what is known of an owner's transfer is what its lines tell, and the counts are a recount

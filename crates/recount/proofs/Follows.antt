@@ -5,7 +5,7 @@ use mathlib.Core.List.{List, [], ◌∷◌}
 use Prim.Native.Nat.{ℕ}
 use borrow.Author.Tests.{eq-eqb, ne_eqb}
 use lib.Dec.{eqb}
-use Rattle.station.specs.Events.{Word, owns, taken, failed, free, given, answer, Event}
+use Rattle.station.specs.Events.{Word, taken, answer, Event}
 use Rattle.pairs.specs.Ended.{is_owns, is_taken_line, is_answer, had_since, is_slave_address, got_through}
 use Rattle.pairs.specs.UnderWay.{under_way, nothing_known, wants_answer, is_owner, may_be_owner, begun, taken_by, answered_in, is_taken}
 use Rattle.pairs.specs.declared.Owner.{Owner}

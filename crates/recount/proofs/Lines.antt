@@ -1,11 +1,11 @@
 -- One line more: the transfers that ended are those of the recount, where what is known of the owner's transfer is what its lines tell.
 -- Assumes nothing.
-use mathlib.Core.Path.{◌≡◌, refl, ap, ◌∙◌}
-use mathlib.Core.Bool.{Bool, true, false}
+use mathlib.Core.Path.{◌≡◌, ap, ◌∙◌}
+use mathlib.Core.Bool.{Bool}
 use mathlib.Core.List.{List, [], ◌∷◌, ◌++◌}
 use Prim.Native.Nat.{ℕ}
 use Rattle.wire.specs.declared.part.Telegram.{Telegram}
-use Rattle.station.specs.Events.{Word, owns, taken, failed, free, given, answer, Event, event, failed_event, free_event}
+use Rattle.station.specs.Events.{owns, taken, given, answer, Event, event, failed_event, free_event}
 use Rattle.station.specs.declared.phase.Failure.{Failure}
 use Rattle.pairs.specs.Ended.{in_front, got_through, ended_at, ended_in}
 use Rattle.pairs.specs.Hear.{or_freed, ended_by, heard_events}

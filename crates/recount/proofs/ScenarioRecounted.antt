@@ -1,5 +1,5 @@
 -- Of every scenario: the table that was kept while it was followed is a recount of all its lines. Assumes nothing.
-use mathlib.Core.Path.{◌≡◌, refl, sym, ap, subst, ◌∙◌}
+use mathlib.Core.Path.{◌≡◌, refl, sym, ap, subst}
 use mathlib.Core.Bool.{Bool, true, false, cond}
 use mathlib.Core.List.{List, [], ◌∷◌, ◌++◌}
 use Prim.Native.Nat.{ℕ, zero, suc}
@@ -8,9 +8,7 @@ use lib.Dec.{ltb}
 use lib.ListN.{length, length-replicate}
 use Rattle.station.specs.Events.{Event}
 use Rattle.station.specs.declared.phase.Sound.{Sound}
-use Rattle.station.specs.declared.phase.Sound.TheVariants as sound
 use Rattle.bus.specs.Bus.{powered_on, done}
-use Rattle.bus.specs.Events.{events}
 use Rattle.bus.specs.Find.{there_is}
 use Rattle.bus.specs.Slot.{slot_run}
 use Rattle.bus.specs.declared.bus.Bus.{Bus}
@@ -24,15 +22,15 @@ use Rattle.walk.specs.declared.field.Field.{Field}
 use Rattle.walk.specs.declared.field.Field.TheVariants.{Master, Slave, Reply, Queue, Run, Heard, Quiet, Bad}
 use Rattle.walk.specs.declared.walk.Moment.{Moment}
 use Rattle.walk.specs.declared.walk.Moment.TheVariants.{Called, Told, Passed, Ended}
-use Rattle.promises.specs.Calls.{Call, attach, queue, reply, slot, heard, after_call, Reachable}
+use Rattle.promises.specs.Calls.{Call, slot, after_call, Reachable}
 use Rattle.promises.specs.Slots.{AllHear, undisturbed, disturbed}
 use Rattle.promises.proofs.Shared.Seats.{did_attach, did_queue, did_reply}
 use Rattle.promises.proofs.Shared.Uses.{on_reachable, reachable_more}
-use Rattle.printed.proofs.Reached.{On, ByteField, field_bytes, gone_reached}
-use Rattle.pairs.specs.Counts.{records, counts}
+use Rattle.printed.proofs.Reached.{On, field_bytes, gone_reached}
+use Rattle.pairs.specs.Counts.{records}
 use Rattle.pairs.specs.Ended.{in_front}
-use Rattle.pairs.specs.Hear.{heard_events, heard_of, events_in}
-use Rattle.pairs.specs.Table.{blank, count_in, listened}
+use Rattle.pairs.specs.Hear.{heard_events, heard_of}
+use Rattle.pairs.specs.Table.{blank, count_in}
 use Rattle.pairs.specs.Tallied.{Tallied}
 use Rattle.pairs.specs.declared.Book.{Book}
 use Rattle.scenario.specs.Pen.{room}

@@ -12,13 +12,11 @@ use Rattle.station.specs.Events.{owns, taken, answer, Event, event}
 use Rattle.station.specs.Hear.{hears}
 use Rattle.station.specs.Phase.{owner}
 use Rattle.station.specs.Station.{ready, answering}
-use Rattle.station.specs.declared.phase.Failure.{Failure}
-use Rattle.station.specs.declared.phase.Phase.{Phase}
-use Rattle.station.specs.declared.phase.Phase.TheVariants.{Owing, Releasing}
+use Rattle.station.specs.declared.phase.Phase.TheVariants.{Releasing}
 use Rattle.station.specs.declared.phase.Sound.{Sound}
 use Rattle.station.specs.declared.phase.Sound.TheVariants.{Symbol}
 use Rattle.station.specs.declared.phase.Told.{Told}
-use Rattle.station.specs.declared.phase.Told.TheVariants.{Silence, Owns, Taken, Failed, Free, FailedFree, Given, Answered}
+use Rattle.station.specs.declared.phase.Told.TheVariants.{Owns, Taken, Free, Answered}
 use Rattle.station.specs.declared.station.Station.{Station}
 use Rattle.station.specs.declared.station.Turn.{Turn}
 use Rattle.station.proofs.Frame.{Begins, as_it_stood, answers, ready_begins, hears_lasting, ready_lasting}
@@ -28,23 +26,22 @@ use Rattle.bus.specs.Bus.{attached_to, turn_at}
 use Rattle.bus.specs.Events.{events}
 use Rattle.bus.specs.Slot.{spoken, slot_run}
 use Rattle.bus.specs.declared.bus.Bus.{Bus}
-use Rattle.promises.specs.Calls.{Call, slot, heard, after_call, Reachable}
+use Rattle.promises.specs.Calls.{Call, after_call, Reachable}
 use Rattle.promises.specs.Fit.{station_at}
 use Rattle.promises.specs.Slots.{AllHear, undisturbed, disturbed}
-use Rattle.promises.proofs.OneOwner.{FirstHeard, nothing, first, ready_follows, Shared, reachable_shared, one_owner}
+use Rattle.promises.proofs.OneOwner.{FirstHeard, nothing, first, ready_follows, reachable_shared, one_owner}
 use Rattle.promises.proofs.SameSymbol.{same_symbol, same_stations}
 use Rattle.promises.proofs.TakenIsHandedOut.{taken_is_handed_out}
 use Rattle.promises.proofs.Shared.AtPhase.{bidder_admitted}
 use Rattle.promises.proofs.Shared.FitKept.{reachable_fit, one_address}
 use Rattle.promises.proofs.Shared.Seats.{Whole, whole_slot}
 use Rattle.pairs.specs.Ended.{is_owns, is_taken_line, is_answer, got_through, ended_in}
-use Rattle.pairs.specs.UnderWay.{taken_by, answered_in, begun, is_taken}
+use Rattle.pairs.specs.UnderWay.{is_taken}
 use Rattle.pairs.specs.Hear as Hear
 use Rattle.pairs.specs.Hear.{heard_of, events_in}
 use Rattle.pairs.specs.declared.Counts.{Counts}
 use Rattle.pairs.specs.declared.Freed.{Freed}
 use Rattle.pairs.specs.declared.Freed.TheVariants.{Nothing, One}
-use Rattle.pairs.specs.declared.Heard.{Heard}
 use Rattle.pairs.specs.declared.Transfer.{Transfer}
 use Rattle.pairs.specs.declared.UnderWay.{UnderWay}
 use Rattle.recount.specs.Listening.{lines_of}

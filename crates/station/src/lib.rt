@@ -1,5 +1,6 @@
 // One station on the wire, slot by slot: what it says, and what it makes of what all hear.
 #![tactic(auto)]
+
 mod admission;
 mod fail;
 mod hear;

@@ -1,12 +1,12 @@
 -- What `counts` is handed to write is exactly its defined output, where the table is what a recount of the scenario's lines gives. That it
 -- always is needs what holds of every bus that calls bring about. Assumes nothing.
 use mathlib.Core.Path.{◌≡◌, refl, sym, ap, subst, ◌∙◌}
-use mathlib.Core.Bool.{Bool, true, false, true≢false, false≢true}
+use mathlib.Core.Bool.{Bool, true, false, true≢false}
 use mathlib.Core.Logic.{◌≢◌}
 use mathlib.Core.List.{List}
-use Prim.Native.Nat.{ℕ, ◌≤◌}
+use Prim.Native.Nat.{ℕ}
 use native.Mathlib.Omega.{arith}
-use lib.ListN.{length, take}
+use lib.ListN.{length}
 use Rattle.walk.specs.Field.{Bytes}
 use Rattle.walk.specs.Form.{form_of}
 use Rattle.walk.specs.declared.form.Form.{Form}
@@ -23,7 +23,6 @@ use Rattle.scenario.proofs.Fills.{written_bytes}
 use Rattle.scenario.proofs.Fits.{form_most}
 use Rattle.tally.specs.Book.{records_in, book_text}
 use Rattle.tally.specs.Follow.{followed, counted_of}
-use Rattle.tally.specs.Lines.{all_text, answer_text}
 use Rattle.tally.specs.Output.{ended_of, recount_text, counts_as, counts_output}
 use Rattle.tally.specs.Writes.{Writes, unasked, refused, counted}
 use Rattle.tally.specs.declared.ask.Question.{Question}

@@ -1,20 +1,19 @@
 -- Every line read back gives its pair and its counts, whatever stands behind it. Assumes nothing.
-use mathlib.Core.Path.{◌≡◌, refl, ap, ◌∙◌}
-use mathlib.Core.List.{List, [], ◌∷◌, ◌++◌, append_assoc}
-use Prim.Native.Nat.{ℕ, ◌+◌, ◌-◌, ◌*◌, ◌^◌, ◌≤◌, ◌<◌}
+use mathlib.Core.Path.{◌≡◌, ap, ◌∙◌}
+use mathlib.Core.List.{List, ◌∷◌, ◌++◌, append_assoc}
+use Prim.Native.Nat.{ℕ, ◌+◌, ◌*◌, ◌^◌, ◌≤◌, ◌<◌}
 use native.Mathlib.Omega.{arith}
 use borrow.Author.Tests.{lt-ltb, le-ltb}
-use lib.ListN.{take, drop}
+use lib.ListN.{drop}
 use Rattle.laws.proofs.FirstIs.{Every, none, next}
-use Rattle.pairs.specs.Counts.{tally}
 use Rattle.pairs.specs.Table.{pair}
 use Rattle.pairs.specs.declared.Tally.{Tally}
 use Rattle.scenario.specs.Lines.{newline}
 use Rattle.scenario.specs.Pen.{byte_text, hex_text, decimal_text}
 use Rattle.scenario.specs.ReadBack.{decimal_digit, read_decimal, read_byte}
 use Rattle.scenario.proofs.ReadsBack.{Digit, decimal_all, decimal_reads_back, hex_reads_back}
-use Rattle.tally.specs.Lines.{taken_word, failed_word, tally_text, pair_text, others_text}
-use Rattle.tally.specs.ReadBack.{Number, number, number_from, read_tally, read_pair, read_others}
+use Rattle.tally.specs.Lines.{failed_word, tally_text, pair_text, others_text}
+use Rattle.tally.specs.ReadBack.{number, number_from, read_tally, read_pair, read_others}
 
 digit_small : (c : ℕ) → Digit c → decimal_digit c < 10
 unfolding decimal_digit

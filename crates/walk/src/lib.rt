@@ -1,5 +1,6 @@
 // A scenario's fields (01, "Bench program"), its form, and the walk over its fields, one moment at a time.
 #![tactic(auto)]
+
 pub mod apply;
 pub mod field;
 pub mod form;

@@ -6,7 +6,7 @@ use Rattle.crc.specs.Crc.{crc_from, crc_of}
 use Rattle.address.specs.Master.{is_master}
 use Rattle.wire.specs.Pair.{expand_one, expand}
 use Rattle.wire.specs.Form.{covered, bytes_of}
-use Rattle.wire.specs.Reader.{start_of, master_start, answer_start, counted}
+use Rattle.wire.specs.Reader.{start_of, master_start, answer_start}
 use Rattle.wire.specs.Reading.{Sixteen, Usable, Message, NoSyn, none, before, If-master}
 use Rattle.wire.specs.declared.part.Part.{Part}
 use Rattle.wire.specs.declared.part.Part.TheVariants.{MasterPart, AnswerPart}

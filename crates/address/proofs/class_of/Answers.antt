@@ -1,7 +1,6 @@
 -- `address::class_of` meets its contract, by what `half_index` gives of the low half.
 --
 use Rattle.address.specs.Half.{class_of}
-use Rattle.std.proofs.Common.{rules}
 use Rattle.address.proofs.class_of.Goals as goal
 
 pub returns : goal.returns

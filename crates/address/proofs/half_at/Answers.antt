@@ -1,6 +1,5 @@
 -- `address::half_at` meets its contract: at each key the definition computes, and past all keys the row has ended.
 --
-use Rattle.address.proofs.Halves.{past_row}
 use Rattle.address.proofs.half_at.Goals as goal
 
 pub returns-in-0 : goal.returns-in-0

@@ -1,6 +1,5 @@
 -- `address::half_index` meets its contract: at each key the definition computes, and past all keys every test fails.
 --
-use Rattle.std.proofs.Common.{ne_eqb}
 use Rattle.address.specs.Half.{half_index}
 use Rattle.address.proofs.half_index.Goals as goal
 

@@ -1,6 +1,5 @@
 -- `address::is_master` meets its contract: what has a rank is a master, and nothing else is.
 --
-use Rattle.std.proofs.Common.{rules}
 use Rattle.address.proofs.Masters.{master_ranked}
 use Rattle.address.proofs.is_master.Goals as goal
 

@@ -1,6 +1,6 @@
 -- `address::master_at` meets its contract. That the sum fits is from the halves: each is below 16.
 --
-use Rattle.std.proofs.Common.{◌/◌, ◌%◌, arith, rules}
+use Rattle.std.proofs.Common.{◌/◌, ◌%◌, arith}
 use Rattle.address.specs.Master.{master_at}
 use Rattle.address.proofs.Halves.{half_at_below}
 use Rattle.address.proofs.master_at.Goals as goal

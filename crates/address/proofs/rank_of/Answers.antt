@@ -1,6 +1,6 @@
 -- `address::rank_of` meets its contract. That the sum fits is from the indexes: each is below 5.
 --
-use Rattle.std.proofs.Common.{sym, ◌∙◌, arith, rules}
+use Rattle.std.proofs.Common.{sym, ◌∙◌, arith}
 use Rattle.address.specs.Master.{rank_of}
 use Rattle.address.proofs.Halves.{class_below, sub_below}
 use Rattle.address.proofs.rank_of.Goals as goal

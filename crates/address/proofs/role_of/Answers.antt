@@ -1,6 +1,6 @@
 -- `address::role_of` meets its contract. The code tells AA and A9 apart from the rest as a range, the definition by two tests.
 --
-use Rattle.std.proofs.Common.{◌≡◌, ℕ, suc, ◌<◌, ◌≤◌, true, false, ◌||◌, eqb, ◌⊎◌, sym, inl, inr, ⊎_elim, eq-or-lt_of_le, arith, rules, eq-eqb, ne_eqb}
+use Rattle.std.proofs.Common.{◌≡◌, ℕ, suc, ◌<◌, ◌≤◌, true, false, ◌||◌, eqb, ◌⊎◌, sym, ⊎_elim, eq-or-lt_of_le, arith, eq-eqb, ne_eqb}
 use Rattle.address.specs.Role.{role_of}
 use Rattle.address.proofs.role_of.Goals as goal
 

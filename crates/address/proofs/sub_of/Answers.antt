@@ -1,7 +1,6 @@
 -- `address::sub_of` meets its contract, by what `half_index` gives of the high half.
 --
 use Rattle.address.specs.Half.{sub_of}
-use Rattle.std.proofs.Common.{rules}
 use Rattle.address.proofs.sub_of.Goals as goal
 
 pub returns : goal.returns

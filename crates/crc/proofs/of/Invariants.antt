@@ -1,11 +1,8 @@
 -- `crc::of` meets its contract: what is left to feed, fed to the register, gives the whole's check symbol.
-use borrow.Author.Rules.{rules}
-use mathlib.Core.Path.{◌≡◌, sym, ◌∙◌, refl}
+use mathlib.Core.Path.{◌≡◌}
 use Prim.Native.Nat.{◌≤◌, ◌-◌}
-use native.Mathlib.Omega.{arith}
 use lib.ListN.{length, drop}
 use Rattle.crc.specs.Crc.{crc_from, crc_of}
-use Rattle.crc.proofs.Feed.{feed_one, feed_none}
 use Rattle.crc.proofs.of.Given as goal
 
 abbrev pub invariant-loop-i : goal.invariant-loop-i

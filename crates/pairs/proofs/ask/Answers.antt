@@ -7,7 +7,6 @@ use Rattle.pairs.proofs.Search.{used_in_table}
 use borrow.Author.Rules.{rules}
 use Rattle.pairs.proofs.ask.Goals as goal
 
-
 pub bounds-table-at : goal.bounds-table-at
 bounds-table-at c =
     let a = c.args in

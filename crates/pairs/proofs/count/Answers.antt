@@ -1,9 +1,7 @@
 -- `pairs::count` meets its contract.
 use borrow.Author.Tests.{eq-eqb, ne_eqb}
 use Rattle.pairs.specs.Table.{counted_one, count_in}
-use borrow.Author.Rules.{rules}
 use Rattle.pairs.proofs.count.Goals as goal
-
 
 pub returns-in-Nothing : goal.returns-in-Nothing
 unfolding count_in

@@ -1,11 +1,10 @@
 -- `pairs::find` meets its contract.
-use Prim.Native.Nat.{◌-◌, ◌<◌}
+use Prim.Native.Nat.{◌<◌}
 use mathlib.Core.Path.{sym, ◌∙◌}
 use lib.ListN.{length}
 use borrow.Author.Rules.{rules}
-use Rattle.pairs.proofs.Search.{Inv, in_table, starts, again, found, ended}
+use Rattle.pairs.proofs.Search.{in_table, starts, again, found, ended}
 use Rattle.pairs.proofs.find.Goals as goal
-
 
 pub loop-i-init : goal.loop-i-init
 loop-i-init c =

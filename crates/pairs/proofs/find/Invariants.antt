@@ -1,9 +1,6 @@
 -- `pairs::find` meets its contract.
-use Prim.Native.Nat.{◌-◌, ◌<◌}
-use mathlib.Core.Path.{sym, ◌∙◌}
-use lib.ListN.{length}
-use borrow.Author.Rules.{rules}
-use Rattle.pairs.proofs.Search.{Inv, in_table, starts, again, found, ended}
+use Prim.Native.Nat.{◌-◌}
+use Rattle.pairs.proofs.Search.{Inv}
 use Rattle.pairs.proofs.find.Given as goal
 
 abbrev pub invariant-loop-i : goal.invariant-loop-i

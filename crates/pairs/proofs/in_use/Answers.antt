@@ -1,6 +1,5 @@
 -- `pairs::in_use` meets its contract.
 use Rattle.pairs.specs.Counts.{in_use}
-use borrow.Author.Rules.{rules}
 use Rattle.pairs.proofs.in_use.Goals as goal
 
 pub returns : goal.returns

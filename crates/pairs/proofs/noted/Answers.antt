@@ -1,7 +1,6 @@
 -- `pairs::noted` meets its contract.
 use borrow.Author.Tests.{lt-ltb, le-ltb}
 use Rattle.pairs.specs.Table.{noted}
-use borrow.Author.Rules.{rules}
 use Rattle.pairs.proofs.noted.Goals as goal
 
 pub returns-then-at-in_use : goal.returns-then-at-in_use

@@ -1,6 +1,5 @@
 -- `pairs::opened` meets its contract.
 use Rattle.pairs.specs.Table.{opened}
-use borrow.Author.Rules.{rules}
 use Rattle.pairs.proofs.opened.Goals as goal
 
 pub returns : goal.returns

@@ -1,6 +1,5 @@
 -- `pairs::raise` meets its contract.
 use Rattle.pairs.specs.Counts.{raise}
-use borrow.Author.Rules.{rules}
 use Rattle.pairs.proofs.raise.Goals as goal
 
 pub returns-then-taken : goal.returns-then-taken

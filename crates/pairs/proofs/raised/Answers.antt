@@ -1,6 +1,5 @@
 -- `pairs::raised` meets its contract.
 use Rattle.pairs.specs.Table.{raised}
-use borrow.Author.Rules.{rules}
 use Rattle.pairs.proofs.raised.Goals as goal
 
 pub returns : goal.returns

@@ -1,7 +1,6 @@
 -- `pairs::settled` meets its contract.
 use Rattle.pairs.specs.Table.{settled}
 use borrow.Author.Tests.{lt-ltb, le-ltb}
-use borrow.Author.Rules.{rules}
 use Rattle.pairs.proofs.settled.Goals as goal
 
 pub returns-then-at-in_use : goal.returns-then-at-in_use

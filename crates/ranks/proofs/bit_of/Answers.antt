@@ -2,7 +2,6 @@
 --
 use mathlib.Core.Path.{sym, ap, ◌∙◌}
 use native.Mathlib.Omega.{arith}
-use borrow.Author.Rules.{rules}
 use Rattle.address.proofs.Ranks.{rank_below}
 use Rattle.ranks.specs.Bits.{bit_of}
 use Rattle.ranks.proofs.Digits.{shifted}

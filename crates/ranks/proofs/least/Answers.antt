@@ -1,7 +1,6 @@
 -- `ranks::least` meets its contract.
 use borrow.Author.Tests.{eq-eqb, ne_eqb}
 use Rattle.ranks.specs.Bits.{least_of}
-use borrow.Author.Rules.{rules}
 use Rattle.ranks.proofs.least.Goals as goal
 
 pub returns-then-bits-eq0 : goal.returns-then-bits-eq0

@@ -1,6 +1,5 @@
 -- `ranks::with_rank` meets its contract.
 use Rattle.ranks.specs.Bits.{with_rank}
-use borrow.Author.Rules.{rules}
 use Rattle.ranks.proofs.with_rank.Goals as goal
 
 pub returns : goal.returns

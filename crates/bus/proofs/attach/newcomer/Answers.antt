@@ -1,6 +1,5 @@
 -- `bus::attach::newcomer` meets its contract.
 use Rattle.bus.specs.Attach.{newcomer}
-use Rattle.std.proofs.Common.{rules}
 use Rattle.bus.proofs.attach.newcomer.Goals as goal
 
 pub returns-then-master : goal.returns-then-master

@@ -1,6 +1,5 @@
 -- `bus::attach::no_such_address` meets its contract.
 use Rattle.bus.specs.Attach.{no_such_address}
-use Rattle.std.proofs.Common.{rules}
 use Rattle.bus.proofs.attach.no_such_address.Goals as goal
 
 pub returns-then-master : goal.returns-then-master

@@ -1,6 +1,5 @@
 -- `bus::bus::unseated` meets its contract.
 use Rattle.bus.specs.Bus.{unseated}
-use Rattle.std.proofs.Common.{rules}
 use Rattle.bus.proofs.bus.unseated.Goals as goal
 
 pub returns : goal.returns

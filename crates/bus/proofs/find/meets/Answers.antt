@@ -1,6 +1,5 @@
 -- `bus::find::meets` meets its contract.
 use Rattle.bus.specs.Find.{meets}
-use Rattle.std.proofs.Common.{rules}
 use Rattle.bus.proofs.find.meets.Goals as goal
 
 pub returns-in-Master : goal.returns-in-Master

@@ -1,6 +1,5 @@
 -- `bus::find::slave_address` meets its contract.
 use Rattle.bus.specs.Find.{slave_address}
-use Rattle.std.proofs.Common.{rules}
 use Rattle.bus.proofs.find.slave_address.Goals as goal
 
 pub returns-then-s : goal.returns-then-s

@@ -1,5 +1,4 @@
 -- `bus::next::with_bid` meets its contract.
-use Rattle.std.proofs.Common.{rules}
 use Rattle.bus.specs.Waiting.{with_bid}
 use Rattle.bus.proofs.next.with_bid.Goals as goal
 

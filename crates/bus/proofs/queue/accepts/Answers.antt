@@ -2,7 +2,6 @@
 use Rattle.bus.specs.Bus.{done}
 use Rattle.bus.specs.Queue.{holds}
 use Rattle.bus.proofs.PutBack.{refused_back}
-use Rattle.std.proofs.Common.{rules}
 use Rattle.bus.proofs.queue.accepts.Goals as goal
 
 pub returns-then-a : goal.returns-then-a

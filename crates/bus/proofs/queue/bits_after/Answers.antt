@@ -1,5 +1,4 @@
 -- `bus::queue::bits_after` meets its contract.
-use Rattle.std.proofs.Common.{rules}
 use Rattle.bus.proofs.queue.bits_after.Goals as goal
 
 pub returns-in-Done : goal.returns-in-Done

@@ -1,5 +1,5 @@
 -- `bus::queue::held` meets its contract.
-use Rattle.std.proofs.Common.{rules, le-ltb, lt-ltb}
+use Rattle.std.proofs.Common.{le-ltb, lt-ltb}
 use Rattle.bus.specs.Queue.{queues_from}
 use Rattle.bus.proofs.PutBack.{refused_back}
 use Rattle.bus.proofs.queue.held.Goals as goal

@@ -1,6 +1,5 @@
 -- `bus::queue::no_command` meets its contract.
 use Rattle.bus.specs.Queue.{no_command}
-use Rattle.std.proofs.Common.{rules}
 use Rattle.bus.proofs.queue.no_command.Goals as goal
 
 pub returns-then-unusable : goal.returns-then-unusable

@@ -1,6 +1,5 @@
 -- `bus::queue::no_target` meets its contract.
 use Rattle.bus.specs.Queue.{no_target}
-use Rattle.std.proofs.Common.{rules}
 use Rattle.bus.proofs.queue.no_target.Goals as goal
 
 pub returns-then-unusable : goal.returns-then-unusable

@@ -1,6 +1,5 @@
 -- `bus::queue::unusable` meets its contract.
 use Rattle.bus.specs.Queue.{unusable}
-use Rattle.std.proofs.Common.{rules}
 use Rattle.bus.proofs.queue.unusable.Goals as goal
 
 pub returns-in-Master : goal.returns-in-Master

@@ -1,5 +1,5 @@
 -- `bus::reply::kept` meets its contract.
-use Rattle.std.proofs.Common.{rules, le-ltb, lt-ltb}
+use Rattle.std.proofs.Common.{le-ltb, lt-ltb}
 use Rattle.bus.specs.Reply.{replies_from}
 use Rattle.bus.proofs.reply.kept.Goals as goal
 

@@ -1,7 +1,6 @@
 -- `bus::reply::writes` meets its contract.
 use Rattle.bus.specs.Bus.{done}
 use Rattle.bus.specs.Reply.{writes}
-use Rattle.std.proofs.Common.{rules}
 use Rattle.bus.proofs.reply.writes.Goals as goal
 
 pub returns-then-w : goal.returns-then-w

@@ -1,5 +1,5 @@
 -- `bus::rest::at_start` meets its contract.
-use Rattle.std.proofs.Common.{rules, eq-eqb, ne_eqb}
+use Rattle.std.proofs.Common.{eq-eqb, ne_eqb}
 use Rattle.bus.specs.Rest.{at_start}
 use Rattle.bus.proofs.rest.at_start.Goals as goal
 

@@ -1,6 +1,5 @@
 -- `bus::rest::from_start` meets its contract.
 use Rattle.bus.specs.Rest.{from_start}
-use Rattle.std.proofs.Common.{rules}
 use Rattle.bus.proofs.rest.from_start.Goals as goal
 
 pub returns-in-First : goal.returns-in-First

@@ -1,5 +1,5 @@
 -- `bus::rest::idle` meets its contract.
-use Rattle.std.proofs.Common.{rules, eq-eqb, ne_eqb}
+use Rattle.std.proofs.Common.{eq-eqb, ne_eqb}
 use Rattle.bus.specs.Rest.{idle}
 use Rattle.bus.proofs.rest.idle.Goals as goal
 

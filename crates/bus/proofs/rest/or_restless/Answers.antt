@@ -1,6 +1,5 @@
 -- `bus::rest::or_restless` meets its contract.
 use Rattle.bus.specs.Strides.{or_meets}
-use Rattle.std.proofs.Common.{rules}
 use Rattle.bus.proofs.rest.or_restless.Goals as goal
 
 pub returns-then-already : goal.returns-then-already

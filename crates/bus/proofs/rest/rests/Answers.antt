@@ -1,6 +1,5 @@
 -- `bus::rest::rests` meets its contract.
 use Rattle.bus.specs.Rest.{rests}
-use Rattle.std.proofs.Common.{rules}
 use Rattle.bus.proofs.rest.rests.Goals as goal
 
 pub returns-then-is_told : goal.returns-then-is_told

@@ -1,5 +1,5 @@
 -- `bus::slot::generator_next` meets its contract.
-use Rattle.std.proofs.Common.{rules, le-ltb, lt-ltb}
+use Rattle.std.proofs.Common.{le-ltb, lt-ltb}
 use Rattle.bus.specs.Slot.{generator_next}
 use Rattle.bus.proofs.slot.generator_next.Goals as goal
 

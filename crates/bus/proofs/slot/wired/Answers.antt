@@ -1,6 +1,5 @@
 -- `bus::slot::wired` meets its contract.
 use Rattle.bus.specs.Slot.{wired}
-use Rattle.std.proofs.Common.{rules}
 use Rattle.bus.proofs.slot.wired.Goals as goal
 
 pub returns-in-Quiet-b : goal.returns-in-Quiet-b

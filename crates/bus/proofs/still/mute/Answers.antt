@@ -1,6 +1,5 @@
 -- `bus::still::mute` meets its contract.
 use Rattle.bus.specs.Still.{mute}
-use Rattle.std.proofs.Common.{rules}
 use Rattle.bus.proofs.still.mute.Goals as goal
 
 pub returns-then-s : goal.returns-then-s

@@ -1,5 +1,5 @@
 -- `bus::still::said_by` meets its contract.
-use Rattle.std.proofs.Common.{sym, ◌∙◌, rules}
+use Rattle.std.proofs.Common.{sym, ◌∙◌}
 use Rattle.bus.proofs.PassedBy.{ready_so}
 use Rattle.bus.proofs.still.said_by.Goals as goal
 

@@ -1,5 +1,5 @@
 -- `bus::still::skips` meets its contract.
-use Rattle.std.proofs.Common.{rules, ne_eqb}
+use Rattle.std.proofs.Common.{ne_eqb}
 use Rattle.bus.specs.Still.{skips}
 use Rattle.bus.proofs.still.skips.Goals as goal
 

@@ -1,6 +1,5 @@
 -- `bus::still::skips_quiet` meets its contract.
 use Rattle.bus.specs.Still.{skips_quiet}
-use Rattle.std.proofs.Common.{rules}
 use Rattle.bus.proofs.still.skips_quiet.Goals as goal
 
 pub returns-in-Judging : goal.returns-in-Judging

@@ -1,6 +1,5 @@
 -- `bus::still::still` meets its contract.
 use Rattle.bus.specs.Still.{still}
-use Rattle.std.proofs.Common.{rules}
 use Rattle.bus.proofs.still.still.Goals as goal
 
 pub returns-then-is_told : goal.returns-then-is_told

@@ -1,5 +1,5 @@
 -- `bus::still::turned` meets its contract.
-use Rattle.std.proofs.Common.{sym, ◌∙◌, rules}
+use Rattle.std.proofs.Common.{sym, ◌∙◌}
 use Rattle.bus.proofs.PassedBy.{ready_so}
 use Rattle.bus.proofs.still.turned.Goals as goal
 

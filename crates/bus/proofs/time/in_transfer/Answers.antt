@@ -1,6 +1,5 @@
 -- `bus::time::in_transfer` meets its contract.
 use Rattle.bus.specs.Find.{in_transfer}
-use Rattle.std.proofs.Common.{rules}
 use Rattle.bus.proofs.time.in_transfer.Goals as goal
 
 pub returns-then-owns : goal.returns-then-owns

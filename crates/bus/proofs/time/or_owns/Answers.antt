@@ -1,5 +1,4 @@
 -- `bus::time::or_owns` meets its contract.
-use Rattle.std.proofs.Common.{rules}
 use Rattle.bus.proofs.time.or_owns.Goals as goal
 
 pub returns-then-already : goal.returns-then-already

@@ -1,17 +1,12 @@
 -- `log::note::slot` meets its contract.
-use borrow.Author.Rules.{rules}
-use mathlib.Core.Path.{◌≡◌, refl, ◌∙◌}
+use mathlib.Core.Path.{◌≡◌}
 use mathlib.Core.Bool.{true, false}
 use Prim.Native.Nat.{◌-◌, ◌≤◌}
-use native.Mathlib.Omega.{arith}
 use lib.ListN.{length, take, drop}
-use Rattle.laws.proofs.Lists.{length_mapped}
 use Rattle.bus.specs.Bus.{seats, attached_to}
 use Rattle.bus.specs.Events.{lines_of}
-use Rattle.bus.proofs.Loops.{attached_fit}
 use Rattle.buslog.specs.Ring.{ring}
 use Rattle.buslog.specs.Note.{noted_all, records_at}
-use Rattle.buslog.proofs.Records.{pass_on, pass_end, slot_noted}
 use Rattle.buslog.proofs.note.slot.Given as goal
 
 abbrev pub invariant-loop-i : goal.invariant-loop-i

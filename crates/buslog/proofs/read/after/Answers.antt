@@ -1,9 +1,6 @@
 -- `log::read::after` meets its contract.
-use borrow.Author.Rules.{rules}
-use mathlib.Core.Path.{◌≡◌, sym, ◌∙◌}
-use Prim.Native.Nat.{◌-◌, ◌≤◌}
+use mathlib.Core.Path.{sym, ◌∙◌}
 use native.Mathlib.Omega.{arith}
-use Rattle.buslog.specs.Read.{rest_after}
 use Rattle.buslog.proofs.Going.{rest_first, rest_empty, rest_on, rest_done}
 use Rattle.buslog.proofs.read.after.Goals as goal
 

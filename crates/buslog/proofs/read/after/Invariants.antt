@@ -1,10 +1,7 @@
 -- `log::read::after` meets its contract.
-use borrow.Author.Rules.{rules}
-use mathlib.Core.Path.{◌≡◌, sym, ◌∙◌}
+use mathlib.Core.Path.{◌≡◌}
 use Prim.Native.Nat.{◌-◌, ◌≤◌}
-use native.Mathlib.Omega.{arith}
 use Rattle.buslog.specs.Read.{rest_after}
-use Rattle.buslog.proofs.Going.{rest_first, rest_empty, rest_on, rest_done}
 use Rattle.buslog.proofs.read.after.Given as goal
 
 abbrev pub invariant-loop-i : goal.invariant-loop-i

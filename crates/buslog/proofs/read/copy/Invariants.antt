@@ -1,15 +1,9 @@
 -- `log::read::copy` meets its contract.
-use borrow.Author.Rules.{rules}
-use mathlib.Core.Path.{◌≡◌, refl, ap, ◌∙◌}
-use mathlib.Core.List.{List}
-use Prim.Native.Nat.{ℕ, ◌-◌, ◌≤◌}
-use native.Mathlib.Omega.{arith}
-use lib.ListN.{length, length-set}
+use mathlib.Core.Path.{◌≡◌}
+use Prim.Native.Nat.{◌-◌, ◌≤◌}
+use lib.ListN.{length}
 use lib.Seq.{sets}
-use Rattle.buslog.specs.declared.log.Said.TheVariants.{Done}
 use Rattle.buslog.specs.Ring.{ring, bytes_from}
-use Rattle.buslog.specs.Read.{copying, copy_of}
-use Rattle.buslog.proofs.Going.{copied_first, copied_on, copied_all}
 use Rattle.buslog.proofs.read.copy.Given as goal
 
 abbrev pub invariant-loop-i : goal.invariant-loop-i

@@ -1,9 +1,6 @@
 -- `log::read::fitting` meets its contract.
-use borrow.Author.Rules.{rules}
-use Prim.Native.Nat.{◌≤◌}
 use native.Mathlib.Omega.{arith}
-use Rattle.buslog.specs.Read.{fitting_in}
-use Rattle.buslog.proofs.Going.{fewer, FitsTo, fits_first, fits_end, fits_full, fits_on}
+use Rattle.buslog.proofs.Going.{fewer, fits_first, fits_end, fits_full, fits_on}
 use Rattle.buslog.proofs.read.fitting.Goals as goal
 
 pub loop-rest-init : goal.loop-rest-init

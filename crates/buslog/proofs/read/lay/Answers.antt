@@ -1,7 +1,6 @@
 -- `log::read::lay` meets its contract.
 use mathlib.Core.Path.{sym}
 use lib.Seq.{set_out}
-use borrow.Author.Rules.{rules}
 use Rattle.buslog.proofs.read.lay.Goals as goal
 
 pub returns-else-i-out : goal.returns-else-i-out

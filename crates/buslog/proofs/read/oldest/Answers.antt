@@ -1,6 +1,5 @@
 -- `log::read::oldest` meets its contract.
 use borrow.Author.Tests.{le-leb, lt-leb, eq-eqb, ne_eqb}
-use borrow.Author.Rules.{rules}
 use Rattle.buslog.specs.Read.{oldest_into}
 use Rattle.buslog.proofs.read.oldest.Goals as goal
 

@@ -2,7 +2,6 @@
 use Rattle.buslog.specs.Record.{head_of}
 use Rattle.buslog.specs.Note.{begun}
 use Rattle.buslog.proofs.Written.{both}
-use borrow.Author.Rules.{rules}
 use Rattle.buslog.proofs.record.begin.Goals as goal
 
 pub returns : goal.returns

@@ -2,7 +2,6 @@
 use Rattle.std.proofs.Common.{◌≡◌, ◌≢◌, refl, ap}
 use mathlib.Core.List.{[], ◌∷◌}
 use Prim.Native.Nat.{ℕ}
-use borrow.Author.Rules.{rules}
 use Rattle.station.specs.Events.{pair_of}
 use Rattle.wire.specs.declared.pair.WrongPair.{WrongPair}
 use Rattle.station.specs.declared.phase.Failure.{Failure}

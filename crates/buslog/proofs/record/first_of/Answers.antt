@@ -4,7 +4,6 @@ use Rattle.station.specs.Events.{failed_event, tells}
 use Rattle.buslog.specs.Note.{records_of, pass_records}
 use Rattle.buslog.proofs.Records.{one_noted, owns_noted, taken_noted, free_noted, two_noted}
 use Rattle.buslog.proofs.Written.{none_noted}
-use borrow.Author.Rules.{rules}
 use Rattle.buslog.proofs.record.first_of.Goals as goal
 
 pub returns-in-Silence : goal.returns-in-Silence

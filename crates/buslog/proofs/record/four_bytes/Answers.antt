@@ -1,7 +1,6 @@
 -- `log::record::four_bytes` meets its contract.
 use Rattle.buslog.specs.Record.{four_bytes}
 use Rattle.buslog.proofs.Written.{both}
-use borrow.Author.Rules.{rules}
 use Rattle.buslog.proofs.record.four_bytes.Goals as goal
 
 pub returns : goal.returns

@@ -3,7 +3,6 @@ use mathlib.Core.Path.{refl}
 use Rattle.buslog.specs.Note.{written}
 use Rattle.buslog.specs.Record.{four_bytes}
 use Rattle.buslog.proofs.Records.{behind}
-use borrow.Author.Rules.{rules}
 use Rattle.buslog.proofs.record.free.Goals as goal
 
 pub returns : goal.returns

@@ -5,7 +5,6 @@ use Rattle.buslog.specs.Record.{given_values, answer_values}
 use Rattle.buslog.specs.Note.{records_of, pass_records}
 use Rattle.buslog.proofs.Records.{one_noted}
 use Rattle.buslog.proofs.Written.{none_noted}
-use borrow.Author.Rules.{rules}
 use Rattle.buslog.proofs.record.last_of.Goals as goal
 
 pub returns-in-Silence : goal.returns-in-Silence

@@ -1,6 +1,5 @@
 -- `log::ring::byte_at` meets its contract.
 use Rattle.buslog.specs.Ring.{byte_at}
-use borrow.Author.Rules.{rules}
 use Rattle.buslog.proofs.Places.{no_byte}
 use Rattle.buslog.proofs.ring.byte_at.Goals as goal
 

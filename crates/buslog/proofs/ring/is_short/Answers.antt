@@ -1,7 +1,6 @@
 -- `log::ring::is_short` meets its contract.
 use borrow.Author.Tests.{eq-eqb, ne_eqb}
 use Rattle.buslog.specs.Ring.{is_short}
-use borrow.Author.Rules.{rules}
 use Rattle.buslog.proofs.ring.is_short.Goals as goal
 
 pub returns-then-l-eq0 : goal.returns-then-l-eq0

@@ -1,7 +1,6 @@
 -- `log::ring::place` meets its contract.
 use borrow.Author.Tests.{lt-ltb, le-ltb}
 use Rattle.buslog.specs.Ring.{place_of}
-use borrow.Author.Rules.{rules}
 use Rattle.buslog.proofs.ring.place.Goals as goal
 
 pub returns-then-k-ahead : goal.returns-then-k-ahead

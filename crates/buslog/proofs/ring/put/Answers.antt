@@ -1,6 +1,5 @@
 -- `log::ring::put` meets its contract.
 use borrow.Author.Tests.{lt-ltb, le-ltb}
-use borrow.Author.Rules.{rules}
 use Rattle.buslog.specs.Ring.{pushed_one, pushed}
 use Rattle.buslog.proofs.ring.put.Goals as goal
 

@@ -1,8 +1,6 @@
 -- `log::ring::room_for` meets its contract.
-use borrow.Author.Rules.{rules}
 use mathlib.Core.Path.{sym, ◌∙◌}
-use Rattle.buslog.specs.Ring.{room_for}
-use Rattle.buslog.proofs.Going.{fewer, short_holds, RoomsTo, rooms_first, rooms_end, rooms_on}
+use Rattle.buslog.proofs.Going.{fewer, short_holds, rooms_first, rooms_end, rooms_on}
 use Rattle.buslog.proofs.ring.room_for.Goals as goal
 
 pub loop-rest-init : goal.loop-rest-init

@@ -1,8 +1,6 @@
 -- `log::ring::room_for` meets its contract.
-use borrow.Author.Rules.{rules}
-use mathlib.Core.Path.{sym, ◌∙◌}
 use Rattle.buslog.specs.Ring.{room_for}
-use Rattle.buslog.proofs.Going.{fewer, short_holds, RoomsTo, rooms_first, rooms_end, rooms_on}
+use Rattle.buslog.proofs.Going.{RoomsTo}
 use Rattle.buslog.proofs.ring.room_for.Given as goal
 
 abbrev pub invariant-loop-rest : goal.invariant-loop-rest

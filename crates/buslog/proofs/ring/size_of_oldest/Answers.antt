@@ -1,6 +1,5 @@
 -- `log::ring::size_of_oldest` meets its contract.
 use Rattle.buslog.specs.Ring.{size_of_oldest}
-use borrow.Author.Rules.{rules}
 use Rattle.buslog.proofs.ring.size_of_oldest.Goals as goal
 
 pub returns : goal.returns

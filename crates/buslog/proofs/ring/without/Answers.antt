@@ -1,6 +1,5 @@
 -- `log::ring::without` meets its contract.
 use Rattle.buslog.specs.Ring.{without}
-use borrow.Author.Rules.{rules}
 use Rattle.buslog.proofs.ring.without.Goals as goal
 
 pub returns : goal.returns

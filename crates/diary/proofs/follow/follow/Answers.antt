@@ -1,14 +1,10 @@
 -- `diary::follow::follow` meets its contract.
-use mathlib.Core.Path.{◌≡◌, refl, sym, ◌∙◌}
+use mathlib.Core.Path.{refl, sym, ◌∙◌}
 use mathlib.Core.Bool.{false}
 use native.Mathlib.Omega.{arith}
 use borrow.Author.Rules.{rules}
-use lib.ListN.{length}
-use Rattle.walk.specs.Field.{Bytes}
-use Rattle.walk.specs.Walk.{to_go}
-use Rattle.walk.proofs.Following.{FollowsTo, follows_first, follows_end, follows_on}
+use Rattle.walk.proofs.Following.{follows_first, follows_end, follows_on}
 use Rattle.walk.proofs.Going.{walked_nearer}
-use Rattle.buslog.specs.Ring.{ring}
 use Rattle.diary.specs.Follow.{noted_in, followed}
 use Rattle.diary.proofs.follow.follow.Goals as goal
 
@@ -26,9 +22,8 @@ loop-bus-smaller c =
     (walked_nearer c.loop-bus.bus c.loop-bus.place _ false c.loop-bus.invariant.0 (rw (← c.onward-step.ensures) (sym c.is_end.ensures ∙ c.if-is_end.false)))
 
 pub loop-bus-preserved : goal.loop-bus-preserved
-loop-bus-preserved c =
-    (
-      c.loop-bus.invariant.0,
-      search rules,
-      follows_on noted_in c.loop-bus.invariant.0 c.loop-bus.invariant.2 (sym c.onward-step.ensures) (sym c.is_end.ensures ∙ c.if-is_end.false) c.noted-to.ensures,
-    )
+loop-bus-preserved c = (
+  c.loop-bus.invariant.0,
+  search rules,
+  follows_on noted_in c.loop-bus.invariant.0 c.loop-bus.invariant.2 (sym c.onward-step.ensures) (sym c.is_end.ensures ∙ c.if-is_end.false) c.noted-to.ensures,
+)

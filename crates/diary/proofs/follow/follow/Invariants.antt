@@ -1,13 +1,9 @@
 -- `diary::follow::follow` meets its contract.
-use mathlib.Core.Path.{◌≡◌, refl, sym, ◌∙◌}
-use mathlib.Core.Bool.{false}
-use native.Mathlib.Omega.{arith}
-use borrow.Author.Rules.{rules}
+use mathlib.Core.Path.{◌≡◌}
 use lib.ListN.{length}
 use Rattle.walk.specs.Field.{Bytes}
 use Rattle.walk.specs.Walk.{to_go}
-use Rattle.walk.proofs.Following.{FollowsTo, follows_first, follows_end, follows_on}
-use Rattle.walk.proofs.Going.{walked_nearer}
+use Rattle.walk.proofs.Following.{FollowsTo}
 use Rattle.buslog.specs.Ring.{ring}
 use Rattle.diary.specs.Follow.{noted_in, followed}
 use Rattle.diary.proofs.follow.follow.Given as goal

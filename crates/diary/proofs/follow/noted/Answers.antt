@@ -1,7 +1,6 @@
 -- `diary::follow::noted` meets its contract.
 use mathlib.Core.Path.{ap}
 use Rattle.buslog.specs.Note.{Keeping}
-use borrow.Author.Rules.{rules}
 use Rattle.diary.proofs.follow.noted.Goals as goal
 
 pub returns-in-Called : goal.returns-in-Called

@@ -1,13 +1,12 @@
 -- `diary::length::length_of` meets its contract.
-use mathlib.Core.Path.{◌≡◌}
 use borrow.Author.Rules.{rules}
 use borrow.Author.Tests.{eq-eqb}
-use Prim.Native.Nat.{◌+◌, ◌-◌, ◌*◌, ◌≤◌}
+use Prim.Native.Nat.{◌+◌, ◌-◌, ◌*◌}
 use native.Mathlib.Omega.{arith}
-use lib.ListN.{length, get_or, drop}
+use lib.ListN.{get_or}
 use Rattle.laws.proofs.AtMost.{at_most_room}
 use Rattle.diary.specs.Length.{past, length_of}
-use Rattle.diary.proofs.Reading.{length_from, read_first, too_low, too_high, a_digit, reads_no, reads_on, reads_end}
+use Rattle.diary.proofs.Reading.{read_first, too_low, too_high, a_digit, reads_no, reads_on, reads_end}
 use Rattle.diary.proofs.length.length_of.Goals as goal
 
 pub returns-then-s-eq0 : goal.returns-then-s-eq0

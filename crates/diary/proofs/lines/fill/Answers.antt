@@ -1,13 +1,11 @@
 -- `diary::lines::fill` meets its contract.
-use borrow.Author.Rules.{rules}
 use mathlib.Core.Path.{◌≡◌, ap, ◌∙◌}
 use Prim.Native.Nat.{ℕ, ◌+◌, ◌-◌}
 use native.Mathlib.Omega.{arith}
-use lib.ListN.{length, take, drop}
+use lib.ListN.{take, drop}
 use Rattle.scenario.specs.Pen.{pen, penned}
-use Rattle.diary.specs.Fill.{filled}
 use Rattle.diary.specs.Lines.{record_line}
-use Rattle.diary.proofs.Filling.{FillsTo, fills_first, fills_over, fills_full, fills_on}
+use Rattle.diary.proofs.Filling.{fills_first, fills_over, fills_full, fills_on}
 use Rattle.diary.proofs.Sizes.{some_there, most_there}
 use Rattle.diary.proofs.lines.fill.Goals as goal
 

@@ -1,7 +1,6 @@
 -- `diary::lines::line` meets its contract.
 use Rattle.scenario.proofs.Written.{both}
 use Rattle.diary.proofs.Lined.{some_line, no_line}
-use borrow.Author.Rules.{rules}
 use Rattle.diary.proofs.lines.line.Goals as goal
 
 pub returns-then-rec-gt0 : goal.returns-then-rec-gt0

@@ -1,12 +1,10 @@
 -- `diary::lines::others` meets its contract.
-use mathlib.Core.Path.{◌≡◌, refl, ap, ◌∙◌}
-use borrow.Author.Rules.{rules}
+use mathlib.Core.Path.{ap, ◌∙◌}
 use mathlib.Core.List.{List}
-use Prim.Native.Nat.{ℕ, ◌+◌, ◌-◌}
-use native.Mathlib.Omega.{arith}
-use lib.ListN.{length, get_or, drop, drop_of_length-le}
+use Prim.Native.Nat.{ℕ, ◌+◌}
+use lib.ListN.{get_or, drop, drop_of_length-le}
 use Rattle.scenario.specs.Lines.{hexes_text}
-use Rattle.scenario.specs.Pen.{pen, penned, hex_text}
+use Rattle.scenario.specs.Pen.{pen, hex_text}
 use Rattle.laws.proofs.Lists.{left_of}
 use Rattle.scenario.proofs.Written.{piece, finished}
 use Rattle.diary.proofs.lines.others.Goals as goal

@@ -1,14 +1,9 @@
 -- `diary::lines::others` meets its contract.
-use mathlib.Core.Path.{◌≡◌, refl, ap, ◌∙◌}
-use borrow.Author.Rules.{rules}
-use mathlib.Core.List.{List}
-use Prim.Native.Nat.{ℕ, ◌+◌, ◌-◌}
-use native.Mathlib.Omega.{arith}
-use lib.ListN.{length, get_or, drop, drop_of_length-le}
+use mathlib.Core.Path.{◌≡◌}
+use Prim.Native.Nat.{◌-◌}
+use lib.ListN.{length, drop}
 use Rattle.scenario.specs.Lines.{hexes_text}
-use Rattle.scenario.specs.Pen.{pen, penned, hex_text}
-use Rattle.laws.proofs.Lists.{left_of}
-use Rattle.scenario.proofs.Written.{piece, finished}
+use Rattle.scenario.specs.Pen.{pen, penned}
 use Rattle.diary.proofs.lines.others.Given as goal
 
 abbrev pub invariant-loop-i : goal.invariant-loop-i

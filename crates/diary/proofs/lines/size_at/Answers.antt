@@ -1,6 +1,5 @@
 -- `diary::lines::size_at` meets its contract.
 use Rattle.diary.proofs.Sizes.{size_none, size_short, size_there}
-use borrow.Author.Rules.{rules}
 use Rattle.diary.proofs.lines.size_at.Goals as goal
 
 pub returns-then-left-lt3 : goal.returns-then-left-lt3

@@ -1,6 +1,5 @@
 -- `diary::opening::opening` meets its contract.
 use Rattle.scenario.specs.Pen.{last_digit, digits_of, decimal_text}
-use borrow.Author.Rules.{rules}
 use Rattle.diary.proofs.opening.opening.Goals as goal
 
 pub returns-in-Ready : goal.returns-in-Ready

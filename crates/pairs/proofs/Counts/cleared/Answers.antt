@@ -1,6 +1,5 @@
 -- `pairs::Counts::cleared` meets its contract.
 use Rattle.pairs.specs.Counts.{cleared}
-use borrow.Author.Rules.{rules}
 use Rattle.pairs.proofs.Counts.cleared.Goals as goal
 
 pub returns : goal.returns

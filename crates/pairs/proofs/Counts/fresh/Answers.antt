@@ -1,6 +1,5 @@
 -- `pairs::Counts::fresh` meets its contract.
 use Rattle.pairs.specs.Counts.{fresh}
-use borrow.Author.Rules.{rules}
 use Rattle.pairs.proofs.Counts.fresh.Goals as goal
 
 pub returns : goal.returns

@@ -1,15 +1,10 @@
 -- `pairs::Counts::hear` meets its contract.
 use borrow.Author.Rules.{rules}
-use mathlib.Core.Path.{◌≡◌, refl}
+use mathlib.Core.Path.{refl}
 use mathlib.Core.Bool.{true, false}
-use Prim.Native.Nat.{◌-◌, ◌≤◌}
 use native.Mathlib.Omega.{arith}
-use lib.ListN.{length, take, drop}
 use Rattle.laws.proofs.Lists.{length_mapped}
-use Rattle.bus.specs.Bus.{seats, attached_to}
-use Rattle.bus.specs.Events.{lines_of}
 use Rattle.bus.proofs.Loops.{attached_fit}
-use Rattle.pairs.specs.Hear.{heard_events}
 use Rattle.pairs.proofs.HeardLines.{pass_on, pass_end, slot_heard}
 use Rattle.pairs.proofs.Counts.hear.Goals as goal
 

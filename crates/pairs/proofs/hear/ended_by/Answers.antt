@@ -1,6 +1,5 @@
 -- `pairs::hear::ended_by` meets its contract.
 use Rattle.pairs.specs.Hear.{ended_by}
-use borrow.Author.Rules.{rules}
 use Rattle.pairs.proofs.hear.ended_by.Goals as goal
 
 pub returns : goal.returns

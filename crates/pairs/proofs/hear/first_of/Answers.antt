@@ -2,7 +2,6 @@
 use Rattle.pairs.proofs.HeardLines.{now_known}
 use Rattle.station.specs.Events.{tells}
 use Rattle.pairs.specs.Hear.{heard_events}
-use borrow.Author.Rules.{rules}
 use Rattle.pairs.proofs.hear.first_of.Goals as goal
 
 pub returns-in-Silence : goal.returns-in-Silence

@@ -1,5 +1,4 @@
 -- `pairs::hear::is_owner` meets its contract.
-use borrow.Author.Rules.{rules}
 use Rattle.pairs.proofs.hear.is_owner.Goals as goal
 
 pub returns-in-Known : goal.returns-in-Known

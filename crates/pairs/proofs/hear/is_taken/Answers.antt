@@ -1,7 +1,6 @@
 -- `pairs::hear::is_taken` meets its contract.
 use mathlib.Core.Path.{sym, ◌∙◌}
 use Rattle.pairs.specs.UnderWay.{is_taken}
-use borrow.Author.Rules.{rules}
 use Rattle.pairs.proofs.hear.is_taken.Goals as goal
 
 pub returns-then-wants_answer : goal.returns-then-wants_answer

@@ -1,5 +1,4 @@
 -- `pairs::hear::may_be_owner` meets its contract.
-use borrow.Author.Rules.{rules}
 use Rattle.pairs.proofs.hear.may_be_owner.Goals as goal
 
 pub returns-in-Known : goal.returns-in-Known

@@ -1,5 +1,4 @@
 -- `pairs::hear::or_freed` meets its contract.
-use borrow.Author.Rules.{rules}
 use Rattle.pairs.proofs.hear.or_freed.Goals as goal
 
 pub returns-in-Nothing : goal.returns-in-Nothing

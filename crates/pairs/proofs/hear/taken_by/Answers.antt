@@ -1,7 +1,6 @@
 -- `pairs::hear::taken_by` meets its contract.
 use mathlib.Core.Path.{sym, ◌∙◌}
 use Rattle.pairs.specs.UnderWay.{taken_by}
-use borrow.Author.Rules.{rules}
 use Rattle.pairs.proofs.hear.taken_by.Goals as goal
 
 pub returns-then-may_be_owner : goal.returns-then-may_be_owner

@@ -1,7 +1,6 @@
 -- `pairs::hear::wants_answer` meets its contract.
 use mathlib.Core.Path.{sym, ◌∙◌}
 use Rattle.pairs.specs.UnderWay.{wants_answer}
-use borrow.Author.Rules.{rules}
 use Rattle.pairs.proofs.hear.wants_answer.Goals as goal
 
 pub returns-in-Master : goal.returns-in-Master

@@ -5,8 +5,7 @@ use borrow.Author.Rules.{rules}
 use mathlib.Core.Path.{◌≡◌, refl, sym, ap, ◌∙◌}
 use mathlib.Core.Bool.{Bool, true, false}
 use mathlib.Core.List.{List, []}
-use mathlib.Core.Logic.{⊎_elim}
-use Prim.Native.Nat.{ℕ, ◌+◌, ◌-◌, ◌≤◌, ◌<◌}
+use Prim.Native.Nat.{ℕ, ◌+◌, ◌≤◌, ◌<◌}
 use lib.ListN.{length, get_or, take, drop, drop_of_length-le, length-take}
 use native.Mathlib.Omega.{arith}
 use Rattle.laws.specs.First.{first_from, is_found}
@@ -19,16 +18,14 @@ use Rattle.bus.specs.declared.bus.Answer.{Answer}
 use Rattle.bus.specs.declared.find.Query.TheVariants.{WasTold}
 use Rattle.bus.specs.declared.time.Time.{Time}
 use Rattle.bus.proofs.Loops.{attached_fit, found_turn, all_asked}
-use Rattle.walk.specs.Field.{Bytes}
-use Rattle.walk.specs.Walk.{before, within, called, came, next, is_end, to_go}
+use Rattle.walk.specs.Walk.{called, came, next, is_end}
 use Rattle.walk.specs.declared.walk.Step.{Step}
 use Rattle.walk.proofs.Going.{next_is}
 use Rattle.walk.proofs.Nearer.{nearer}
 use Rattle.walk.proofs.Seats.{slot_seats, run_seats, applied_seats}
-use Rattle.scenario.specs.Fill.{fields_filled}
 use Rattle.scenario.specs.Lines.{text_of, slot_text, text_at, pass_text}
 use Rattle.scenario.specs.Pen.{pen, penned}
-use Rattle.scenario.proofs.Filling.{FillsTo, fills_first, fills_full, fills_next, fills_over, fills_came, came_nearer}
+use Rattle.scenario.proofs.Filling.{fills_first, fills_full, fills_next, fills_over, fills_came, came_nearer}
 use Rattle.scenario.proofs.Texts.{pass_next, both_passes}
 use Rattle.scenario.proofs.Written.{both, finished, nothing, piece}
 use Rattle.scenario.proofs.fill.fields.Goals as goal
@@ -77,10 +74,10 @@ returns-in-End c =
 pub loop-i-init : goal.loop-i-init
 loop-i-init c =
     let full : length c.match-task.bus.turns ≡ seats =
-      elim c.match-task.branch [
-        in-Slots w ↦ rw (w.bus-is, w.run-stop.ensures) (run_seats _ c.loop-used.bus ∙ c.loop-used.invariant.2)
+    elim c.match-task.branch [
+      | in-Slots w ↦ rw (w.bus-is, w.run-stop.ensures) (run_seats _ c.loop-used.bus ∙ c.loop-used.invariant.2)
       | in-Hear w ↦ rw (w.bus-is, w.slot_heard-bus.ensures) (slot_seats c.loop-used.bus _ ∙ c.loop-used.invariant.2)
-      ] in
+    ] in
     let e = c.attached-n.ensures in
     (search rules, rw e (attached_fit _), e, full, refl, nobody)
 
@@ -134,10 +131,10 @@ pub loop-used-smaller : goal.loop-used-smaller
 loop-used-smaller c =
     -- slots were run, undisturbed or heard as given
     let ran : next c.loop-used.bus c.loop-used.place c.args.s.now ≡ came c.match-task.bus c.ahead-ahead.result.to c.match-task.left =
-      elim c.match-task.branch [
-        in-Slots w ↦ rw (w.bus-is, w.left-is, w.run-stop.ensures) (next_is c.loop-used.bus c.loop-used.place _ c.ahead-ahead.ensures w.in-Slots.is)
+    elim c.match-task.branch [
+      | in-Slots w ↦ rw (w.bus-is, w.left-is, w.run-stop.ensures) (next_is c.loop-used.bus c.loop-used.place _ c.ahead-ahead.ensures w.in-Slots.is)
       | in-Hear w ↦ rw (w.bus-is, w.left-is, w.slot_heard-bus.ensures) (next_is c.loop-used.bus c.loop-used.place _ c.ahead-ahead.ensures w.in-Hear.is)
-      ] in
+    ] in
     -- the first pass is over: all have been asked
     let asked : c.loop-i.i ≡ attached_to c.match-task.bus = omega (arith, c.loop-i-test.false, c.loop-i.invariant.0, c.loop-i.invariant.2) in
     let told : c.loop-i.told ≡ there_is c.match-task.bus WasTold = all_asked c.match-task.bus WasTold c.loop-i.i asked c.loop-i.invariant.5 in
@@ -147,18 +144,18 @@ pub loop-used-preserved : goal.loop-used-preserved
 loop-used-preserved c =
     -- slots were run, undisturbed or heard as given
     let ran : next c.loop-used.bus c.loop-used.place c.args.s.now ≡ came c.match-task.bus c.ahead-ahead.result.to c.match-task.left =
-      elim c.match-task.branch [
-        in-Slots w ↦ rw (w.bus-is, w.left-is, w.run-stop.ensures) (next_is c.loop-used.bus c.loop-used.place _ c.ahead-ahead.ensures w.in-Slots.is)
+    elim c.match-task.branch [
+      | in-Slots w ↦ rw (w.bus-is, w.left-is, w.run-stop.ensures) (next_is c.loop-used.bus c.loop-used.place _ c.ahead-ahead.ensures w.in-Slots.is)
       | in-Hear w ↦ rw (w.bus-is, w.left-is, w.slot_heard-bus.ensures) (next_is c.loop-used.bus c.loop-used.place _ c.ahead-ahead.ensures w.in-Hear.is)
-      ] in
+    ] in
     -- the first pass is over: all have been asked
     let asked : c.loop-i.i ≡ attached_to c.match-task.bus = omega (arith, c.loop-i-test.false, c.loop-i.invariant.0, c.loop-i.invariant.2) in
     let told : c.loop-i.told ≡ there_is c.match-task.bus WasTold = all_asked c.match-task.bus WasTold c.loop-i.i asked c.loop-i.invariant.5 in
     let full : length c.match-task.bus.turns ≡ seats =
-      elim c.match-task.branch [
-        in-Slots w ↦ rw (w.bus-is, w.run-stop.ensures) (run_seats _ c.loop-used.bus ∙ c.loop-used.invariant.2)
+    elim c.match-task.branch [
+      | in-Slots w ↦ rw (w.bus-is, w.run-stop.ensures) (run_seats _ c.loop-used.bus ∙ c.loop-used.invariant.2)
       | in-Hear w ↦ rw (w.bus-is, w.slot_heard-bus.ensures) (slot_seats c.loop-used.bus _ ∙ c.loop-used.invariant.2)
-      ] in
+    ] in
     let b = c.match-task.bus in
     let n = c.attached-n.result in
     let time = c.time_if_free-time.result in

@@ -1,36 +1,21 @@
 -- `scenario::fill::fields` meets its contract. The invariant of the outer loop: enough turns are left for what is to go; of the inner
 -- two: the lines of the stations that are left, written from here, give them all, and whether one so far was told something.
 --
-use borrow.Author.Rules.{rules}
-use mathlib.Core.Path.{◌≡◌, refl, sym, ap, ◌∙◌}
-use mathlib.Core.Bool.{Bool, true, false}
-use mathlib.Core.List.{List, []}
-use mathlib.Core.Logic.{⊎_elim}
-use Prim.Native.Nat.{ℕ, ◌+◌, ◌-◌, ◌≤◌, ◌<◌}
-use lib.ListN.{length, get_or, take, drop, drop_of_length-le, length-take}
-use native.Mathlib.Omega.{arith}
+use mathlib.Core.Path.{◌≡◌}
+use mathlib.Core.Bool.{true, false}
+use Prim.Native.Nat.{◌≤◌}
+use lib.ListN.{length, take, drop}
 use Rattle.laws.specs.First.{first_from, is_found}
-use Rattle.laws.proofs.Lists.{length_mapped}
-use Rattle.station.specs.declared.station.Turn.{Turn}
 use Rattle.bus.specs.Bus.{seats, attached_to}
 use Rattle.bus.specs.Events.{lines_of}
-use Rattle.bus.specs.Find.{meets, there_is}
-use Rattle.bus.specs.declared.bus.Answer.{Answer}
+use Rattle.bus.specs.Find.{meets}
 use Rattle.bus.specs.declared.find.Query.TheVariants.{WasTold}
-use Rattle.bus.specs.declared.time.Time.{Time}
-use Rattle.bus.proofs.Loops.{attached_fit, found_turn, all_asked}
 use Rattle.walk.specs.Field.{Bytes}
-use Rattle.walk.specs.Walk.{before, within, called, came, next, is_end, to_go}
-use Rattle.walk.specs.declared.walk.Step.{Step}
-use Rattle.walk.proofs.Going.{next_is}
-use Rattle.walk.proofs.Nearer.{nearer}
-use Rattle.walk.proofs.Seats.{slot_seats, run_seats, applied_seats}
+use Rattle.walk.specs.Walk.{to_go}
 use Rattle.scenario.specs.Fill.{fields_filled}
-use Rattle.scenario.specs.Lines.{text_of, slot_text, text_at, pass_text}
+use Rattle.scenario.specs.Lines.{text_at}
 use Rattle.scenario.specs.Pen.{pen, penned}
-use Rattle.scenario.proofs.Filling.{FillsTo, fills_first, fills_full, fills_next, fills_over, fills_came, came_nearer}
-use Rattle.scenario.proofs.Texts.{pass_next, both_passes}
-use Rattle.scenario.proofs.Written.{both, finished, nothing, piece}
+use Rattle.scenario.proofs.Filling.{FillsTo}
 use Rattle.scenario.proofs.fill.fields.Given as goal
 
 abbrev pub invariant-loop-i : goal.invariant-loop-i

@@ -1,5 +1,4 @@
 -- `scenario::fill::fill_from` meets its contract.
-use borrow.Author.Rules.{rules}
 use Rattle.scenario.proofs.fill.fill_from.Goals as goal
 
 pub returns-in-Opening : goal.returns-in-Opening

@@ -1,5 +1,4 @@
 -- `scenario::fill::opening` meets its contract.
-use borrow.Author.Rules.{rules}
 use Rattle.scenario.proofs.Written.{nothing, both}
 use Rattle.scenario.proofs.fill.opening.Goals as goal
 

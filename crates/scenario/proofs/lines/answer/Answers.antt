@@ -1,5 +1,4 @@
 -- `scenario::lines::answer` meets its contract.
-use borrow.Author.Rules.{rules}
 use Rattle.scenario.specs.Lines.{answer_text}
 use Rattle.scenario.proofs.Written.{both}
 use Rattle.scenario.proofs.lines.answer.Goals as goal

@@ -1,5 +1,4 @@
 -- `scenario::lines::begin` meets its contract.
-use borrow.Author.Rules.{rules}
 use Rattle.scenario.specs.Lines.{begin_text}
 use Rattle.scenario.proofs.Written.{both}
 use Rattle.scenario.proofs.lines.begin.Goals as goal

@@ -1,5 +1,4 @@
 -- `scenario::lines::counted` meets its contract.
-use borrow.Author.Rules.{rules}
 use Rattle.scenario.specs.Lines.{counted_text}
 use Rattle.scenario.proofs.Written.{both}
 use Rattle.scenario.proofs.lines.counted.Goals as goal

@@ -1,5 +1,4 @@
 -- `scenario::lines::end_line` meets its contract.
-use borrow.Author.Rules.{rules}
 use Rattle.scenario.specs.Lines.{end_text}
 use Rattle.scenario.proofs.Written.{both}
 use Rattle.scenario.proofs.lines.end_line.Goals as goal

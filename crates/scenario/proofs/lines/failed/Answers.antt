@@ -1,5 +1,4 @@
 -- `scenario::lines::failed` meets its contract.
-use borrow.Author.Rules.{rules}
 use Rattle.scenario.proofs.lines.failed.Goals as goal
 
 pub returns : goal.returns

@@ -1,5 +1,4 @@
 -- `scenario::lines::first_of` meets its contract.
-use borrow.Author.Rules.{rules}
 use Rattle.station.specs.Events.{tells}
 use Rattle.scenario.specs.Lines.{text_of, pass_text}
 use Rattle.scenario.proofs.Written.{nothing, both}

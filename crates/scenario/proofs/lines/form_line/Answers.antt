@@ -1,5 +1,4 @@
 -- `scenario::lines::form_line` meets its contract.
-use borrow.Author.Rules.{rules}
 use Rattle.scenario.specs.Pen.{last_digit, digits_of, decimal_text}
 use Rattle.scenario.proofs.Written.{nothing, both}
 use Rattle.scenario.proofs.lines.form_line.Goals as goal

@@ -1,5 +1,4 @@
 -- `scenario::lines::given` meets its contract.
-use borrow.Author.Rules.{rules}
 use Rattle.scenario.specs.Lines.{given_text}
 use Rattle.scenario.proofs.Written.{both}
 use Rattle.scenario.proofs.lines.given.Goals as goal

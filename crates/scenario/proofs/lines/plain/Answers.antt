@@ -1,5 +1,4 @@
 -- `scenario::lines::plain` meets its contract.
-use borrow.Author.Rules.{rules}
 use Rattle.scenario.specs.Lines.{plain_text}
 use Rattle.scenario.proofs.Written.{both}
 use Rattle.scenario.proofs.lines.plain.Goals as goal

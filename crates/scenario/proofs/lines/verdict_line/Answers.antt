@@ -1,5 +1,4 @@
 -- `scenario::lines::verdict_line` meets its contract.
-use borrow.Author.Rules.{rules}
 use Rattle.scenario.proofs.Written.{nothing, both}
 use Rattle.scenario.proofs.lines.verdict_line.Goals as goal
 

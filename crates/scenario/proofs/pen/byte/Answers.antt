@@ -1,5 +1,4 @@
 -- `scenario::pen::byte` meets its contract.
-use borrow.Author.Rules.{rules}
 use Rattle.scenario.proofs.Written.{both}
 use Rattle.scenario.proofs.pen.byte.Goals as goal
 

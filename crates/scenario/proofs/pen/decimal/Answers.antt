@@ -1,5 +1,4 @@
 -- `scenario::pen::decimal` meets its contract.
-use borrow.Author.Rules.{rules}
 use Rattle.scenario.specs.Pen.{decimal_text}
 use Rattle.scenario.proofs.pen.decimal.Goals as goal
 

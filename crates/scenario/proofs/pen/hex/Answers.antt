@@ -1,5 +1,4 @@
 -- `scenario::pen::hex` meets its contract.
-use borrow.Author.Rules.{rules}
 use Rattle.scenario.specs.Pen.{hex_text}
 use Rattle.scenario.proofs.Written.{both}
 use Rattle.scenario.proofs.pen.hex.Goals as goal

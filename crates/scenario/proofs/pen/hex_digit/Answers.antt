@@ -1,7 +1,6 @@
 -- `scenario::pen::hex_digit` meets its contract.
 use borrow.Author.Tests.{lt-ltb, le-ltb}
 use Rattle.scenario.specs.Pen.{hex_digit}
-use borrow.Author.Rules.{rules}
 use Rattle.scenario.proofs.pen.hex_digit.Goals as goal
 
 pub returns-then-low-lt10 : goal.returns-then-low-lt10

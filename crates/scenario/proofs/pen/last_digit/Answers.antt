@@ -1,5 +1,4 @@
 -- `scenario::pen::last_digit` meets its contract.
-use borrow.Author.Rules.{rules}
 use mathlib.Core.Path.{refl}
 use Rattle.scenario.specs.Pen.{last_digit}
 use Rattle.scenario.proofs.pen.last_digit.Goals as goal

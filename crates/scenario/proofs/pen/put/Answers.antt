@@ -1,5 +1,4 @@
 -- `scenario::pen::put` meets its contract.
-use borrow.Author.Rules.{rules}
 use borrow.Author.Tests.{lt-ltb, le-ltb}
 use Rattle.scenario.specs.Pen.{penned_one, penned}
 use Rattle.scenario.proofs.pen.put.Goals as goal

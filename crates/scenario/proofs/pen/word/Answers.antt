@@ -1,12 +1,11 @@
 -- `scenario::pen::word` meets its contract: what is left of the word, written from here, is the whole word.
 use borrow.Author.Rules.{rules}
-use mathlib.Core.Path.{◌≡◌, refl, ◌∙◌}
+use mathlib.Core.Path.{refl, ◌∙◌}
 use mathlib.Core.List.{[], ◌∷◌}
-use Prim.Native.Nat.{◌+◌, ◌-◌, ◌≤◌}
-use lib.ListN.{length, get_or, drop, drop_of_length-le}
-use Rattle.scenario.specs.Pen.{pen, penned}
+use Prim.Native.Nat.{◌+◌}
+use lib.ListN.{get_or, drop, drop_of_length-le}
+use Rattle.scenario.specs.Pen.{pen}
 use Rattle.scenario.proofs.Written.{piece, finished, left_of}
-use native.Mathlib.Omega.{arith}
 use Rattle.scenario.proofs.pen.word.Goals as goal
 
 pub loop-i-init : goal.loop-i-init

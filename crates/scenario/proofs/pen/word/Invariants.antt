@@ -1,12 +1,8 @@
 -- `scenario::pen::word` meets its contract: what is left of the word, written from here, is the whole word.
-use borrow.Author.Rules.{rules}
-use mathlib.Core.Path.{◌≡◌, refl, ◌∙◌}
-use mathlib.Core.List.{[], ◌∷◌}
-use Prim.Native.Nat.{◌+◌, ◌-◌, ◌≤◌}
-use lib.ListN.{length, get_or, drop, drop_of_length-le}
+use mathlib.Core.Path.{◌≡◌}
+use Prim.Native.Nat.{◌-◌, ◌≤◌}
+use lib.ListN.{length, drop}
 use Rattle.scenario.specs.Pen.{pen, penned}
-use Rattle.scenario.proofs.Written.{piece, finished, left_of}
-use native.Mathlib.Omega.{arith}
 use Rattle.scenario.proofs.pen.word.Given as goal
 
 abbrev pub invariant-loop-i : goal.invariant-loop-i

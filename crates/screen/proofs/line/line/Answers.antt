@@ -1,5 +1,4 @@
 -- `screen::line::line` meets its contract.
-use borrow.Author.Rules.{rules}
 use Rattle.scenario.proofs.Written.{both}
 use Rattle.screen.specs.Lines.{line_text}
 use Rattle.screen.proofs.line.line.Goals as goal

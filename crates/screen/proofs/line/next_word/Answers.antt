@@ -1,5 +1,4 @@
 -- `screen::line::next_word` meets its contract.
-use borrow.Author.Rules.{rules}
 use Rattle.screen.proofs.line.next_word.Goals as goal
 
 pub returns-in-Master : goal.returns-in-Master

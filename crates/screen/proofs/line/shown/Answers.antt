@@ -1,6 +1,5 @@
 -- `screen::line::shown` meets its contract.
 use mathlib.Core.Path.{sym, ◌∙◌}
-use borrow.Author.Rules.{rules}
 use Rattle.scenario.proofs.Written.{nothing}
 use Rattle.screen.proofs.line.shown.Goals as goal
 

@@ -2,7 +2,6 @@
 use lib.Ieee.{of_bits}
 use Rattle.scenario.proofs.Written.{nothing, both}
 use Rattle.sheet.specs.Decimal.{float_text}
-use borrow.Author.Rules.{rules}
 use Rattle.sheet.proofs.decimal.float.Goals as goal
 
 pub returns-in-Up : goal.returns-in-Up

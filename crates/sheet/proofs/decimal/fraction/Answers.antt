@@ -1,9 +1,8 @@
 -- `sheet::decimal::fraction` meets its contract.
-use borrow.Author.Rules.{rules}
 use mathlib.Core.Path.{◌≡◌, refl, ◌∙◌}
-use Prim.Native.Nat.{◌-◌, ◌*◌, ◌/◌, ◌%◌, ◌<◌}
+use Prim.Native.Nat.{◌-◌, ◌*◌, ◌/◌, ◌%◌}
 use native.Mathlib.Omega.{arith}
-use Rattle.scenario.specs.Pen.{pen, penned, decimal_text}
+use Rattle.scenario.specs.Pen.{pen, decimal_text}
 use Rattle.scenario.proofs.Written.{piece, finished}
 use Rattle.sheet.specs.Decimal.{fraction_text}
 use Rattle.sheet.proofs.Places.{nothing_left, no_place, next_place}

@@ -1,12 +1,8 @@
 -- `sheet::decimal::fraction` meets its contract.
-use borrow.Author.Rules.{rules}
-use mathlib.Core.Path.{◌≡◌, refl, ◌∙◌}
-use Prim.Native.Nat.{◌-◌, ◌*◌, ◌/◌, ◌%◌, ◌<◌}
-use native.Mathlib.Omega.{arith}
-use Rattle.scenario.specs.Pen.{pen, penned, decimal_text}
-use Rattle.scenario.proofs.Written.{piece, finished}
+use mathlib.Core.Path.{◌≡◌}
+use Prim.Native.Nat.{◌<◌}
+use Rattle.scenario.specs.Pen.{pen, penned}
 use Rattle.sheet.specs.Decimal.{fraction_text}
-use Rattle.sheet.proofs.Places.{nothing_left, no_place, next_place}
 use Rattle.sheet.proofs.decimal.fraction.Given as goal
 
 abbrev pub invariant-loop-places : goal.invariant-loop-places

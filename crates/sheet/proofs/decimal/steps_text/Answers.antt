@@ -2,7 +2,6 @@
 use Rattle.scenario.proofs.Written.{both}
 use Rattle.sheet.specs.Decimal.{steps_text}
 use borrow.Author.Tests.{eq-eqb, ne_eqb}
-use borrow.Author.Rules.{rules}
 use Rattle.sheet.proofs.decimal.steps_text.Goals as goal
 
 pub returns-then-n-eq0 : goal.returns-then-n-eq0

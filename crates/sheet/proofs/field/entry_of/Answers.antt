@@ -1,7 +1,5 @@
 -- `sheet::field::entry_of` meets its contract.
-use borrow.Author.Tests.{ne_eqb}
 use Rattle.sheet.specs.Field.{entry_of}
-use borrow.Author.Rules.{rules}
 use Rattle.sheet.proofs.field.entry_of.Goals as goal
 
 pub returns-in-1 : goal.returns-in-1

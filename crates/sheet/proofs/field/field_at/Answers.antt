@@ -2,7 +2,6 @@
 use Rattle.walk.specs.Field.{byte_at}
 use borrow.Author.Tests.{lt-ltb, le-ltb}
 use Rattle.sheet.specs.Field.{field_at}
-use borrow.Author.Rules.{rules}
 use Rattle.sheet.proofs.field.field_at.Goals as goal
 
 pub returns-then-n-lt3 : goal.returns-then-n-lt3

@@ -1,7 +1,6 @@
 -- `sheet::field::pair` meets its contract.
 use mathlib.Core.Path.{refl}
 use Rattle.walk.specs.Field.{pair_at}
-use borrow.Author.Rules.{rules}
 use Rattle.sheet.proofs.field.pair.Goals as goal
 
 pub returns : goal.returns

@@ -1,16 +1,15 @@
 -- `sheet::form::form_of` meets its contract: enough turns are left for the bytes that are left.
-use borrow.Author.Rules.{rules}
 use mathlib.Core.Path.{◌≡◌, sym, ap, ◌∙◌}
 use mathlib.Core.Bool.{Bool}
 use mathlib.Core.List.{List}
-use Prim.Native.Nat.{ℕ, ◌-◌, ◌≤◌}
+use Prim.Native.Nat.{ℕ}
 use borrow.Author.Tests.{lt-ltb, le-ltb}
 use lib.ListN.{length}
 use Rattle.sheet.specs.declared.field.Placed.{Placed}
 use Rattle.sheet.specs.Field.{field_at, is_bad}
 use Rattle.walk.specs.Form.{most}
 use Rattle.sheet.specs.Form.{form_of}
-use Rattle.sheet.proofs.Fields.{Finds, within, found_next, found_bad, found_end}
+use Rattle.sheet.proofs.Fields.{within, found_next, found_bad, found_end}
 use native.Mathlib.Omega.{arith}
 use Rattle.sheet.proofs.form.form_of.Goals as goal
 

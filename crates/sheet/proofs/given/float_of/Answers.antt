@@ -2,7 +2,6 @@
 use mathlib.Core.Path.{sym}
 use lib.Ieee.{of_bits, div}
 use Rattle.sheet.proofs.NanBits.{nan_pattern, number_pattern}
-use borrow.Author.Rules.{rules}
 use Rattle.sheet.proofs.given.float_of.Goals as goal
 
 pub float_from_bits-result : goal.float_from_bits-result

@@ -2,7 +2,6 @@
 use Rattle.walk.specs.Field.{byte_at}
 use borrow.Author.Tests.{eq-eqb, ne_eqb}
 use Rattle.sheet.specs.Given.{given_in}
-use borrow.Author.Rules.{rules}
 use Rattle.sheet.proofs.given.given_in.Goals as goal
 
 pub returns-then-bytes-eq5 : goal.returns-then-bytes-eq5

@@ -1,7 +1,5 @@
 -- `sheet::given::of_kind` meets its contract.
-use borrow.Author.Tests.{ne_eqb}
 use Rattle.sheet.specs.Given.{of_kind}
-use borrow.Author.Rules.{rules}
 use Rattle.sheet.proofs.given.of_kind.Goals as goal
 
 pub returns-in-0 : goal.returns-in-0

@@ -2,7 +2,6 @@
 use mathlib.Core.Path.{refl}
 use Rattle.walk.specs.Field.{pair_at}
 use Rattle.sheet.specs.Given.{word_of}
-use borrow.Author.Rules.{rules}
 use Rattle.sheet.proofs.given.word.Goals as goal
 
 pub returns : goal.returns

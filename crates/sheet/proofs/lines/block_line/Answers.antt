@@ -1,6 +1,5 @@
 -- `sheet::lines::block_line` meets its contract.
 use Rattle.scenario.proofs.Written.{both}
-use borrow.Author.Rules.{rules}
 use Rattle.sheet.proofs.lines.block_line.Goals as goal
 
 pub returns-in-Accepted : goal.returns-in-Accepted

@@ -2,7 +2,6 @@
 use Rattle.scenario.proofs.Written.{both}
 use Rattle.scenario.specs.Lines.{hexes_text}
 use Rattle.scenario.specs.Pen.{hex_text}
-use borrow.Author.Rules.{rules}
 use Rattle.sheet.proofs.lines.code_line.Goals as goal
 
 pub returns-in-One : goal.returns-in-One

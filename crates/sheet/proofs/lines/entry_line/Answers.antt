@@ -1,6 +1,5 @@
 -- `sheet::lines::entry_line` meets its contract.
 use Rattle.scenario.proofs.Written.{nothing}
-use borrow.Author.Rules.{rules}
 use Rattle.sheet.proofs.lines.entry_line.Goals as goal
 
 pub returns-in-Read : goal.returns-in-Read

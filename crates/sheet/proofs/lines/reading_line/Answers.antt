@@ -1,6 +1,5 @@
 -- `sheet::lines::reading_line` meets its contract.
 use Rattle.scenario.proofs.Written.{both}
-use borrow.Author.Rules.{rules}
 use Rattle.sheet.proofs.lines.reading_line.Goals as goal
 
 pub returns-in-Of : goal.returns-in-Of

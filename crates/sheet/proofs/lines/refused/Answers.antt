@@ -1,7 +1,6 @@
 -- `sheet::lines::refused` meets its contract.
 use Rattle.scenario.proofs.Written.{both}
 use Rattle.sheet.specs.Lines.{refused_line}
-use borrow.Author.Rules.{rules}
 use Rattle.sheet.proofs.lines.refused.Goals as goal
 
 pub returns : goal.returns

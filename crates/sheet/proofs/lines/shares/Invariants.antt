@@ -1,16 +1,9 @@
 -- `sheet::lines::shares` meets its contract.
-use borrow.Author.Rules.{rules}
-use mathlib.Core.Path.{◌≡◌, refl, ap, ◌∙◌}
-use mathlib.Core.List.{List, [], ◌∷◌}
-use Prim.Native.Nat.{◌+◌, ◌-◌, ◌≤◌}
-use native.Mathlib.Omega.{arith}
-use lib.Ieee.{Float}
-use lib.ListN.{length, take, drop, drop_of_length-le, length-take}
-use Rattle.laws.proofs.AtMost.{at_most_room}
+use mathlib.Core.Path.{◌≡◌}
+use Prim.Native.Nat.{◌-◌, ◌≤◌}
+use lib.ListN.{length, take, drop}
 use Rattle.scenario.specs.Pen.{pen, penned}
-use Rattle.scenario.proofs.Written.{both, piece, finished}
 use Rattle.sheet.specs.Lines.{shares_text}
-use Rattle.sheet.proofs.Shown.{shares_next, first_of}
 use Rattle.sheet.proofs.lines.shares.Given as goal
 
 abbrev pub invariant-loop-i : goal.invariant-loop-i

@@ -1,6 +1,5 @@
 -- `sheet::lines::value_text` meets its contract.
 use Rattle.scenario.proofs.Written.{both}
-use borrow.Author.Rules.{rules}
 use Rattle.sheet.proofs.lines.value_text.Goals as goal
 
 pub returns-in-Whole : goal.returns-in-Whole

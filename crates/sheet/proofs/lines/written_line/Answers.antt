@@ -1,5 +1,4 @@
 -- `sheet::lines::written_line` meets its contract.
-use borrow.Author.Rules.{rules}
 use Rattle.sheet.proofs.lines.written_line.Goals as goal
 
 pub returns-in-Known : goal.returns-in-Known

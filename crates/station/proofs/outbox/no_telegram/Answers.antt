@@ -1,5 +1,4 @@
 -- `station::outbox::no_telegram` meets its contract.
-use borrow.Author.Rules.{rules}
 use Rattle.station.proofs.outbox.no_telegram.Goals as goal
 
 pub returns : goal.returns

@@ -1,5 +1,4 @@
 -- `station::replies::no_reply` meets its contract.
-use borrow.Author.Rules.{rules}
 use Rattle.station.proofs.replies.no_reply.Goals as goal
 
 pub returns : goal.returns

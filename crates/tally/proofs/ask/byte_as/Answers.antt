@@ -1,7 +1,6 @@
 -- `tally::ask::byte_as` meets its contract.
 use borrow.Author.Tests.{lt-ltb, le-ltb}
 use Rattle.tally.specs.Ask.{byte_as}
-use borrow.Author.Rules.{rules}
 use Rattle.tally.proofs.ask.byte_as.Goals as goal
 
 pub returns-then-low-lt-NO_DIGIT : goal.returns-then-low-lt-NO_DIGIT

@@ -1,7 +1,6 @@
 -- `tally::ask::byte_of` meets its contract.
 use borrow.Author.Tests.{eq-eqb, ne_eqb}
 use Rattle.tally.specs.Ask.{byte_of}
-use borrow.Author.Rules.{rules}
 use Rattle.tally.proofs.ask.byte_of.Goals as goal
 
 pub returns-then-word-eq2 : goal.returns-then-word-eq2

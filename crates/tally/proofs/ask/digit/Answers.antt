@@ -1,5 +1,4 @@
 -- `tally::ask::digit` meets its contract.
-use borrow.Author.Rules.{rules}
 use native.Mathlib.Omega.{arith}
 use Rattle.tally.proofs.Digits.{number, capital, small, below, between, among, above}
 use Rattle.tally.proofs.ask.digit.Goals as goal

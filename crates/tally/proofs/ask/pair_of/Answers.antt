@@ -1,6 +1,5 @@
 -- `tally::ask::pair_of` meets its contract.
 use Rattle.tally.specs.Ask.{pair_of}
-use borrow.Author.Rules.{rules}
 use Rattle.tally.proofs.ask.pair_of.Goals as goal
 
 pub returns-in-Byte : goal.returns-in-Byte

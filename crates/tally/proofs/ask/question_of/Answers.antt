@@ -1,6 +1,5 @@
 -- `tally::ask::question_of` meets its contract.
 use Rattle.tally.specs.Ask.{question_of}
-use borrow.Author.Rules.{rules}
 use Rattle.tally.proofs.ask.question_of.Goals as goal
 
 pub returns-in-Byte : goal.returns-in-Byte

@@ -1,5 +1,4 @@
 -- `tally::follow::counted` meets its contract.
-use borrow.Author.Rules.{rules}
 use Rattle.tally.proofs.follow.counted.Goals as goal
 
 pub returns-in-Called : goal.returns-in-Called

@@ -2,10 +2,7 @@
 use mathlib.Core.Path.{sym, ◌∙◌}
 use mathlib.Core.Bool.{false}
 use native.Mathlib.Omega.{arith}
-use borrow.Author.Rules.{rules}
-use Rattle.walk.specs.Field.{Bytes}
-use Rattle.walk.specs.Walk.{to_go}
-use Rattle.walk.proofs.Following.{FollowsTo, follows_first, follows_end, follows_on}
+use Rattle.walk.proofs.Following.{follows_first, follows_end, follows_on}
 use Rattle.walk.proofs.Going.{walked_nearer}
 use Rattle.tally.specs.Follow.{counted_in, followed}
 use Rattle.tally.proofs.follow.follow.Goals as goal
@@ -27,8 +24,7 @@ loop-bus-smaller c =
     (walked_nearer c.loop-bus.bus c.loop-bus.place _ false c.loop-bus.invariant.0 (rw (← c.onward-step.ensures) (sym c.is_end.ensures ∙ c.if-is_end.false)))
 
 pub loop-bus-preserved : goal.loop-bus-preserved
-loop-bus-preserved c =
-    (
-      c.loop-bus.invariant.0,
-      follows_on counted_in c.loop-bus.invariant.0 c.loop-bus.invariant.1 (sym c.onward-step.ensures) (sym c.is_end.ensures ∙ c.if-is_end.false) c.counted-book.ensures,
-    )
+loop-bus-preserved c = (
+  c.loop-bus.invariant.0,
+  follows_on counted_in c.loop-bus.invariant.0 c.loop-bus.invariant.1 (sym c.onward-step.ensures) (sym c.is_end.ensures ∙ c.if-is_end.false) c.counted-book.ensures,
+)

@@ -1,12 +1,7 @@
 -- `tally::follow::follow` meets its contract.
-use mathlib.Core.Path.{sym, ◌∙◌}
-use mathlib.Core.Bool.{false}
-use native.Mathlib.Omega.{arith}
-use borrow.Author.Rules.{rules}
 use Rattle.walk.specs.Field.{Bytes}
 use Rattle.walk.specs.Walk.{to_go}
-use Rattle.walk.proofs.Following.{FollowsTo, follows_first, follows_end, follows_on}
-use Rattle.walk.proofs.Going.{walked_nearer}
+use Rattle.walk.proofs.Following.{FollowsTo}
 use Rattle.tally.specs.Follow.{counted_in, followed}
 use Rattle.tally.proofs.follow.follow.Given as goal
 

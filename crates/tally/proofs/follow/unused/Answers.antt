@@ -1,6 +1,5 @@
 -- `tally::follow::unused` meets its contract.
 use Rattle.tally.specs.Follow.{unused}
-use borrow.Author.Rules.{rules}
 use Rattle.tally.proofs.follow.unused.Goals as goal
 
 pub returns : goal.returns

@@ -1,5 +1,4 @@
 -- `tally::lines::all` meets its contract.
-use borrow.Author.Rules.{rules}
 use Rattle.scenario.proofs.Written.{both}
 use Rattle.tally.specs.Lines.{others_text}
 use Rattle.tally.proofs.lines.all.Goals as goal

@@ -1,5 +1,4 @@
 -- `tally::lines::answer` meets its contract.
-use borrow.Author.Rules.{rules}
 use Rattle.scenario.specs.Pen.{last_digit, digits_of, decimal_text}
 use Rattle.scenario.proofs.Written.{nothing}
 use Rattle.tally.proofs.lines.answer.Goals as goal

@@ -1,5 +1,4 @@
 -- `tally::lines::pair` meets its contract.
-use borrow.Author.Rules.{rules}
 use Rattle.scenario.proofs.Written.{both}
 use Rattle.tally.specs.Lines.{pair_text}
 use Rattle.tally.proofs.lines.pair.Goals as goal

@@ -1,15 +1,12 @@
 -- `tally::lines::records` meets its contract.
 use borrow.Author.Rules.{rules}
-use mathlib.Core.Path.{◌≡◌, refl}
-use Prim.Native.Nat.{◌-◌, ◌≤◌}
+use mathlib.Core.Path.{refl}
 use native.Mathlib.Omega.{arith}
-use lib.ListN.{length, take, drop}
 use Rattle.laws.proofs.AtMost.{at_most_room}
 use Rattle.laws.proofs.Lists.{length_mapped}
 use Rattle.pairs.specs.Counts.{records, in_use}
-use Rattle.scenario.specs.Pen.{pen, penned}
+use Rattle.scenario.specs.Pen.{pen}
 use Rattle.tally.specs.Book.{records_in}
-use Rattle.tally.specs.Lines.{records_text}
 use Rattle.tally.proofs.RecordsWritten.{one_written, all_written}
 use Rattle.tally.proofs.lines.records.Goals as goal
 

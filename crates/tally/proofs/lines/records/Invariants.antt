@@ -1,16 +1,10 @@
 -- `tally::lines::records` meets its contract.
-use borrow.Author.Rules.{rules}
-use mathlib.Core.Path.{◌≡◌, refl}
+use mathlib.Core.Path.{◌≡◌}
 use Prim.Native.Nat.{◌-◌, ◌≤◌}
-use native.Mathlib.Omega.{arith}
 use lib.ListN.{length, take, drop}
-use Rattle.laws.proofs.AtMost.{at_most_room}
-use Rattle.laws.proofs.Lists.{length_mapped}
-use Rattle.pairs.specs.Counts.{records, in_use}
+use Rattle.pairs.specs.Counts.{records}
 use Rattle.scenario.specs.Pen.{pen, penned}
-use Rattle.tally.specs.Book.{records_in}
 use Rattle.tally.specs.Lines.{records_text}
-use Rattle.tally.proofs.RecordsWritten.{one_written, all_written}
 use Rattle.tally.proofs.lines.records.Given as goal
 
 abbrev pub invariant-loop-i : goal.invariant-loop-i

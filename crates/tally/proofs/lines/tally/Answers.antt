@@ -1,5 +1,4 @@
 -- `tally::lines::tally` meets its contract.
-use borrow.Author.Rules.{rules}
 use Rattle.scenario.proofs.Written.{both}
 use Rattle.tally.specs.Lines.{tally_text}
 use Rattle.tally.proofs.lines.tally.Goals as goal

@@ -1,5 +1,4 @@
 -- `tally::lines::text` meets its contract.
-use borrow.Author.Rules.{rules}
 use Rattle.scenario.proofs.Written.{nothing}
 use Rattle.tally.proofs.lines.text.Goals as goal
 

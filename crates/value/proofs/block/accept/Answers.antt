@@ -1,5 +1,5 @@
 -- `value::block::accept` meets its contract.
-use Rattle.std.proofs.Common.{sym, ◌∙◌, rules}
+use Rattle.std.proofs.Common.{sym, ◌∙◌}
 use Rattle.value.proofs.Blocks.{accepted_short}
 use Rattle.value.proofs.block.accept.Goals as goal
 

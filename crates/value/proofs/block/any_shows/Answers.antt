@@ -1,6 +1,6 @@
 -- `value::block::any_shows` meets its contract.
-use Rattle.std.proofs.Common.{◌≡◌, ◌-◌, ◌≤◌, length, drop, sym, refl, ap, ◌∙◌, arith, rules}
-use Rattle.value.specs.Block.{shows, any_shows}
+use Rattle.std.proofs.Common.{sym, refl, ap, ◌∙◌, arith, rules}
+use Rattle.value.specs.Block.{shows}
 use Rattle.value.proofs.Blocks.{any_here, any_on, any_end}
 use Rattle.value.proofs.block.any_shows.Goals as goal
 
@@ -13,12 +13,11 @@ returns-then-shows c =
     (ap (shows c.args.f) (sym c.read_share-share.ensures) ∙ sym c.shows.ensures ∙ c.if-shows.true)
 
 pub loop-i-preserved : goal.loop-i-preserved
-loop-i-preserved c =
-    (
-      omega arith,
-      any_on _ _ _ c.loop-i.invariant.1 c.loop-i-test.true
-          (ap (shows c.args.f) (sym c.read_share-share.ensures) ∙ sym c.shows.ensures ∙ c.if-shows.false),
-    )
+loop-i-preserved c = (
+  omega arith,
+  any_on _ _ _ c.loop-i.invariant.1 c.loop-i-test.true
+      (ap (shows c.args.f) (sym c.read_share-share.ensures) ∙ sym c.shows.ensures ∙ c.if-shows.false),
+)
 
 pub returns : goal.returns
 returns c = any_end _ _ _ c.loop-i.invariant.1 c.loop-i-test.false

@@ -1,7 +1,6 @@
 -- `value::block::any_shows` meets its contract.
-use Rattle.std.proofs.Common.{◌≡◌, ◌-◌, ◌≤◌, length, drop, sym, refl, ap, ◌∙◌, arith, rules}
-use Rattle.value.specs.Block.{shows, any_shows}
-use Rattle.value.proofs.Blocks.{any_here, any_on, any_end}
+use Rattle.std.proofs.Common.{◌≡◌, ◌-◌, ◌≤◌, length, drop}
+use Rattle.value.specs.Block.{any_shows}
 use Rattle.value.proofs.block.any_shows.Given as goal
 
 abbrev pub invariant-loop-i : goal.invariant-loop-i

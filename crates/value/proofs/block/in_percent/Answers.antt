@@ -1,8 +1,8 @@
 -- `value::block::in_percent` meets its contract.
-use Rattle.std.proofs.Common.{◌≡◌, ◌-◌, ◌≤◌, length, refl, arith, rules}
+use Rattle.std.proofs.Common.{refl, arith, rules}
 use lib.Ieee.{of_bits}
 use Rattle.value.specs.Block.{percents_of, shares_of}
-use Rattle.value.proofs.Blocks.{so_far, share_more, shares_all}
+use Rattle.value.proofs.Blocks.{share_more, shares_all}
 use Rattle.value.proofs.block.in_percent.Goals as goal
 
 pub loop-i-init : goal.loop-i-init

@@ -1,8 +1,6 @@
 -- `value::block::in_percent` meets its contract.
-use Rattle.std.proofs.Common.{◌≡◌, ◌-◌, ◌≤◌, length, refl, arith, rules}
-use lib.Ieee.{of_bits}
-use Rattle.value.specs.Block.{percents_of, shares_of}
-use Rattle.value.proofs.Blocks.{so_far, share_more, shares_all}
+use Rattle.std.proofs.Common.{◌≡◌, ◌-◌, ◌≤◌, length}
+use Rattle.value.proofs.Blocks.{so_far}
 use Rattle.value.proofs.block.in_percent.Given as goal
 
 abbrev pub invariant-loop-i : goal.invariant-loop-i

@@ -1,5 +1,4 @@
 -- `value::block::refused` meets its contract.
-use Rattle.std.proofs.Common.{rules}
 use Rattle.value.proofs.block.refused.Goals as goal
 
 pub returns : goal.returns

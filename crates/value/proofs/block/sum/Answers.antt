@@ -1,6 +1,5 @@
 -- `value::block::sum` meets its contract.
-use Rattle.std.proofs.Common.{◌≡◌, ◌+◌, ◌-◌, ◌*◌, ◌≤◌, length, drop, zero-add, arith, rules}
-use Rattle.value.specs.Block.{sum_of}
+use Rattle.std.proofs.Common.{zero-add, arith, rules}
 use Rattle.value.proofs.Blocks.{sum_on, sum_end}
 use Rattle.value.proofs.block.sum.Goals as goal
 

@@ -1,7 +1,6 @@
 -- `value::block::sum` meets its contract.
-use Rattle.std.proofs.Common.{◌≡◌, ◌+◌, ◌-◌, ◌*◌, ◌≤◌, length, drop, zero-add, arith, rules}
+use Rattle.std.proofs.Common.{◌≡◌, ◌+◌, ◌-◌, ◌*◌, ◌≤◌, length, drop}
 use Rattle.value.specs.Block.{sum_of}
-use Rattle.value.proofs.Blocks.{sum_on, sum_end}
 use Rattle.value.proofs.block.sum.Given as goal
 
 abbrev pub invariant-loop-i : goal.invariant-loop-i

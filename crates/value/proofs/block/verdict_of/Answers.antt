@@ -1,5 +1,5 @@
 -- `value::block::verdict_of` meets its contract.
-use Rattle.std.proofs.Common.{rules, le-ltb, lt-ltb, eq-eqb, ne_eqb}
+use Rattle.std.proofs.Common.{le-ltb, lt-ltb, eq-eqb, ne_eqb}
 use Rattle.value.specs.Block.{verdict_of}
 use Rattle.value.proofs.block.verdict_of.Goals as goal
 

@@ -1,7 +1,6 @@
 -- `value::read::percent` meets its contract.
 use Rattle.value.specs.Read.{percent_of}
 use lib.Ieee.{of_bits}
-use Rattle.std.proofs.Common.{rules}
 use Rattle.value.proofs.read.percent.Goals as goal
 
 pub returns : goal.returns

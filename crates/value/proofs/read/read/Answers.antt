@@ -1,5 +1,5 @@
 -- `value::read::read` meets its contract.
-use Rattle.std.proofs.Common.{sym, ◌∙◌, rules}
+use Rattle.std.proofs.Common.{sym, ◌∙◌}
 use Rattle.value.proofs.ByLength.{of_one, of_two, of_others}
 use Rattle.value.proofs.read.read.Goals as goal
 

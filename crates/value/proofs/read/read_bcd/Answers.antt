@@ -1,5 +1,5 @@
 -- `value::read::read_bcd` meets its contract.
-use Rattle.std.proofs.Common.{rules, le-ltb, lt-ltb, eq-eqb, ne_eqb}
+use Rattle.std.proofs.Common.{le-ltb, lt-ltb, eq-eqb, ne_eqb}
 use Rattle.value.specs.Read.{read_bcd}
 use Rattle.value.proofs.read.read_bcd.Goals as goal
 

@@ -1,5 +1,4 @@
 -- `value::read::read_one` meets its contract.
-use Rattle.std.proofs.Common.{rules}
 use Rattle.value.proofs.read.read_one.Goals as goal
 
 pub returns-in-Bcd : goal.returns-in-Bcd

@@ -1,5 +1,5 @@
 -- `value::read::read_share` meets its contract.
-use Rattle.std.proofs.Common.{rules, eq-eqb, ne_eqb, le-leb}
+use Rattle.std.proofs.Common.{eq-eqb, ne_eqb, le-leb}
 use borrow.Author.Tests.{lt-leb}
 use Rattle.value.specs.Read.{read_share}
 use Rattle.value.proofs.read.read_share.Goals as goal

@@ -1,6 +1,5 @@
 -- `value::read::read_two` meets its contract.
 use lib.Ieee.{of_bits}
-use Rattle.std.proofs.Common.{rules}
 use Rattle.value.proofs.read.read_two.Goals as goal
 
 pub returns-in-Data2b : goal.returns-in-Data2b

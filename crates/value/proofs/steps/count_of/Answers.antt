@@ -1,7 +1,6 @@
 -- `value::steps::count_of` meets its contract.
 use lib.Ieee.{of_bits}
 use Rattle.value.specs.Steps.{count_of}
-use Rattle.std.proofs.Common.{rules}
 use Rattle.value.proofs.steps.count_of.Goals as goal
 
 pub returns-in-Steps : goal.returns-in-Steps

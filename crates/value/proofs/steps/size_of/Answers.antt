@@ -1,5 +1,5 @@
 -- `value::steps::size_of` meets its contract.
-use Rattle.std.proofs.Common.{T, sym, subst, rules, le-ltb, lt-ltb}
+use Rattle.std.proofs.Common.{T, sym, subst, le-ltb, lt-ltb}
 use lib.Ieee.{of_bits, neg}
 use Rattle.value.specs.Steps.{size_of}
 use Rattle.value.proofs.steps.size_of.Goals as goal

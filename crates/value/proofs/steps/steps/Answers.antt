@@ -1,6 +1,5 @@
 -- `value::steps::steps` meets its contract.
 use Rattle.value.specs.Steps.{steps_of}
-use Rattle.std.proofs.Common.{rules}
 use Rattle.value.proofs.steps.steps.Goals as goal
 
 pub returns : goal.returns

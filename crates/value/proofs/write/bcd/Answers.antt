@@ -1,5 +1,5 @@
 -- `value::write::bcd` meets its contract.
-use Rattle.std.proofs.Common.{rules, le-ltb, lt-ltb}
+use Rattle.std.proofs.Common.{le-ltb, lt-ltb}
 use Rattle.value.specs.Write.{bcd_of}
 use Rattle.value.proofs.write.bcd.Goals as goal
 

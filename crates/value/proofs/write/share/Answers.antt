@@ -1,5 +1,5 @@
 -- `value::write::share` meets its contract.
-use Rattle.std.proofs.Common.{rules, le-leb}
+use Rattle.std.proofs.Common.{le-leb}
 use borrow.Author.Tests.{lt-leb}
 use Rattle.value.proofs.write.share.Goals as goal
 

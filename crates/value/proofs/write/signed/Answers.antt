@@ -1,5 +1,5 @@
 -- `value::write::signed` meets its contract.
-use Rattle.std.proofs.Common.{rules, le-ltb, lt-ltb}
+use Rattle.std.proofs.Common.{le-ltb, lt-ltb}
 use Rattle.value.proofs.write.signed.Goals as goal
 
 pub returns-then-n-lt32768 : goal.returns-then-n-lt32768

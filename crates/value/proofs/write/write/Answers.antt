@@ -1,6 +1,5 @@
 -- `value::write::write` meets its contract.
 use lib.Ieee.{of_bits}
-use Rattle.std.proofs.Common.{rules}
 use Rattle.value.proofs.write.write.Goals as goal
 
 pub returns-in-Data2b : goal.returns-in-Data2b

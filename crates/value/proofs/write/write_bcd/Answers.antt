@@ -1,5 +1,4 @@
 -- `value::write::write_bcd` meets its contract.
-use Rattle.std.proofs.Common.{rules}
 use Rattle.value.proofs.write.write_bcd.Goals as goal
 
 pub returns-in-Whole : goal.returns-in-Whole

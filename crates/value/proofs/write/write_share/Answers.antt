@@ -1,6 +1,5 @@
 -- `value::write::write_share` meets its contract.
 use lib.Ieee.{of_bits}
-use Rattle.std.proofs.Common.{rules}
 use Rattle.value.proofs.write.write_share.Goals as goal
 
 pub returns-in-Percent : goal.returns-in-Percent

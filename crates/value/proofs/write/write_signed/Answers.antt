@@ -1,5 +1,4 @@
 -- `value::write::write_signed` meets its contract.
-use Rattle.std.proofs.Common.{rules}
 use Rattle.value.proofs.write.write_signed.Goals as goal
 
 pub returns-in-Temperature : goal.returns-in-Temperature

@@ -1,6 +1,5 @@
 -- `walk::apply::apply` meets its contract.
 use Rattle.walk.specs.Apply.{applied}
-use borrow.Author.Rules.{rules}
 use Rattle.walk.proofs.apply.apply.Goals as goal
 
 pub returns-in-Master : goal.returns-in-Master

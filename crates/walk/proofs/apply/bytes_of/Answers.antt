@@ -1,5 +1,4 @@
 -- `walk::apply::bytes_of` meets its contract.
-use borrow.Author.Rules.{rules}
 use borrow.Author.Tests.{le-leb, lt-leb}
 use Rattle.walk.specs.Apply.{bytes_from}
 use Rattle.walk.proofs.apply.bytes_of.Goals as goal

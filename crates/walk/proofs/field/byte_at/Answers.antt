@@ -1,5 +1,4 @@
 -- `walk::field::byte_at` meets its contract.
-use borrow.Author.Rules.{rules}
 use mathlib.Core.Path.{refl, sym}
 use lib.ListN.{get_or-eq_default}
 use Rattle.walk.specs.Field.{byte_at}

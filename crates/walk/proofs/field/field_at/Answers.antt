@@ -1,5 +1,4 @@
 -- `walk::field::field_at` meets its contract.
-use borrow.Author.Rules.{rules}
 use borrow.Author.Tests.{lt-ltb, le-ltb}
 use Rattle.walk.specs.Field.{field_at}
 use Rattle.walk.proofs.field.field_at.Goals as goal

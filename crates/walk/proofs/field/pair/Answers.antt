@@ -1,6 +1,5 @@
 -- `walk::field::pair` meets its contract.
 use Rattle.walk.specs.Field.{pair_at}
-use borrow.Author.Rules.{rules}
 use Rattle.walk.proofs.field.pair.Goals as goal
 
 pub returns : goal.returns

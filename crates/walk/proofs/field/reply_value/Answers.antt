@@ -1,5 +1,4 @@
 -- `walk::field::reply_value` meets its contract.
-use borrow.Author.Rules.{rules}
 use borrow.Author.Tests.{lt-ltb, le-ltb}
 use Rattle.walk.proofs.field.reply_value.Goals as goal
 

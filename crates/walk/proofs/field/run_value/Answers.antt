@@ -1,5 +1,4 @@
 -- `walk::field::run_value` meets its contract.
-use borrow.Author.Rules.{rules}
 use borrow.Author.Tests.{eq-eqb, ne_eqb}
 use Rattle.walk.proofs.field.run_value.Goals as goal
 

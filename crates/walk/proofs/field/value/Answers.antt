@@ -1,5 +1,4 @@
 -- `walk::field::value` meets its contract.
-use borrow.Author.Rules.{rules}
 use borrow.Author.Tests.{eq-eqb, ne_eqb}
 use Rattle.walk.specs.Field.{value_of}
 use Rattle.walk.proofs.field.value.Goals as goal

@@ -1,15 +1,14 @@
 -- `walk::form::form_of` meets its contract: enough turns are left for the bytes that are left.
-use borrow.Author.Rules.{rules}
 use mathlib.Core.Path.{◌≡◌, sym, ap, ◌∙◌}
 use mathlib.Core.Bool.{Bool}
 use mathlib.Core.List.{List}
-use Prim.Native.Nat.{ℕ, ◌-◌, ◌≤◌}
+use Prim.Native.Nat.{ℕ}
 use borrow.Author.Tests.{lt-ltb, le-ltb}
 use lib.ListN.{length}
 use Rattle.walk.specs.declared.field.Placed.{Placed}
 use Rattle.walk.specs.Field.{field_at, is_bad}
 use Rattle.walk.specs.Form.{most, form_of}
-use Rattle.walk.proofs.Fields.{Finds, next_past, found_next, found_bad, found_end}
+use Rattle.walk.proofs.Fields.{next_past, found_next, found_bad, found_end}
 use native.Mathlib.Omega.{arith}
 use Rattle.walk.proofs.form.form_of.Goals as goal
 

@@ -1,5 +1,4 @@
 -- `walk::walk::called` meets its contract.
-use borrow.Author.Rules.{rules}
 use Rattle.walk.proofs.walk.called.Goals as goal
 
 pub returns : goal.returns

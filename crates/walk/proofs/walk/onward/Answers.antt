@@ -1,5 +1,4 @@
 -- `walk::walk::onward` meets its contract: enough turns are left for what is to go.
-use borrow.Author.Rules.{rules}
 use mathlib.Core.Path.{◌≡◌, refl, sym, ap, ◌∙◌}
 use mathlib.Core.Bool.{not}
 use Prim.Native.Nat.{ℕ}
@@ -7,10 +6,9 @@ use Rattle.bus.specs.declared.bus.Bus.{Bus}
 use native.Mathlib.Omega.{arith}
 use Rattle.walk.specs.declared.walk.Moment.TheVariants.{Passed}
 use Rattle.walk.specs.declared.walk.Step.{Step}
-use Rattle.walk.specs.Field.{Bytes}
-use Rattle.walk.specs.Walk.{before, stepped, next, is_end, walked, to_go}
+use Rattle.walk.specs.Walk.{before, stepped, next, is_end}
 use Rattle.walk.proofs.Nearer.{nearer}
-use Rattle.walk.proofs.Going.{Goes, goes_first, goes_here, goes_on, next_is, came_told, came_quiet}
+use Rattle.walk.proofs.Going.{goes_first, goes_here, goes_on, next_is, came_told, came_quiet}
 use Rattle.walk.proofs.walk.onward.Goals as goal
 use Rattle.walk.proofs.walk.onward.Goals.{in-Slots+else-there_is, in-Hear+else-there_is-2, in-Pass}
 
@@ -51,42 +49,42 @@ passed {at = at} e f = f ∙ ap (λ (x : Bus). stepped x (before at) Passed) (sy
 pub returns-then-ends : goal.returns-then-ends
 returns-then-ends c =
     let over : next c.loop-f.bus c.loop-f.place c.args.s.now ≡ stepped c.match-task.bus (before c.ahead-ahead.result.to) Passed =
-      elim c.match-task.branch [
-        in-Slots+else-there_is w ↦
+    elim c.match-task.branch [
+      | in-Slots+else-there_is w ↦
           passed w.bus-is (rw w.run-stop.ensures (next_is c.loop-f.bus c.loop-f.place _ c.ahead-ahead.ensures w.in-Slots.is)
           ∙ came_quiet w.run-stop.result.bus c.ahead-ahead.result.to w.run-stop.result.left w.there_is.ensures w.if-there_is.false)
       | in-Hear+else-there_is-2 w ↦
           passed w.bus-is (rw w.slot_heard-bus.ensures (next_is c.loop-f.bus c.loop-f.place _ c.ahead-ahead.ensures w.in-Hear.is)
           ∙ came_quiet w.slot_heard-bus.result c.ahead-ahead.result.to 0 w.there_is-in-Hear.ensures w.if-there_is-2.false)
       | in-Pass w ↦ passed w.bus-is (next_is c.loop-f.bus c.loop-f.place _ c.ahead-ahead.ensures w.in-Pass.is)
-      ] in
+    ] in
     rw (c.stepped-then-ends.ensures, c.before-place.ensures) (goes_here c.loop-f.invariant.1 over (ap not c.if-ends.true))
 
 pub loop-f-smaller : goal.loop-f-smaller
 loop-f-smaller c =
     let over : next c.loop-f.bus c.loop-f.place c.args.s.now ≡ stepped c.match-task.bus (before c.ahead-ahead.result.to) Passed =
-      elim c.match-task.branch [
-        in-Slots+else-there_is w ↦
+    elim c.match-task.branch [
+      | in-Slots+else-there_is w ↦
           passed w.bus-is (rw w.run-stop.ensures (next_is c.loop-f.bus c.loop-f.place _ c.ahead-ahead.ensures w.in-Slots.is)
           ∙ came_quiet w.run-stop.result.bus c.ahead-ahead.result.to w.run-stop.result.left w.there_is.ensures w.if-there_is.false)
       | in-Hear+else-there_is-2 w ↦
           passed w.bus-is (rw w.slot_heard-bus.ensures (next_is c.loop-f.bus c.loop-f.place _ c.ahead-ahead.ensures w.in-Hear.is)
           ∙ came_quiet w.slot_heard-bus.result c.ahead-ahead.result.to 0 w.there_is-in-Hear.ensures w.if-there_is-2.false)
       | in-Pass w ↦ passed w.bus-is (next_is c.loop-f.bus c.loop-f.place _ c.ahead-ahead.ensures w.in-Pass.is)
-      ] in
+    ] in
     rw c.before-place.ensures
     (rw over at (nearer c.loop-f.bus c.loop-f.place c.args.s.now c.loop-f.invariant.0 (ap (λ (n : Step). is_end n.moment) over)))
 
 pub loop-f-preserved : goal.loop-f-preserved
 loop-f-preserved c =
     let over : next c.loop-f.bus c.loop-f.place c.args.s.now ≡ stepped c.match-task.bus (before c.ahead-ahead.result.to) Passed =
-      elim c.match-task.branch [
-        in-Slots+else-there_is w ↦
+    elim c.match-task.branch [
+      | in-Slots+else-there_is w ↦
           passed w.bus-is (rw w.run-stop.ensures (next_is c.loop-f.bus c.loop-f.place _ c.ahead-ahead.ensures w.in-Slots.is)
           ∙ came_quiet w.run-stop.result.bus c.ahead-ahead.result.to w.run-stop.result.left w.there_is.ensures w.if-there_is.false)
       | in-Hear+else-there_is-2 w ↦
           passed w.bus-is (rw w.slot_heard-bus.ensures (next_is c.loop-f.bus c.loop-f.place _ c.ahead-ahead.ensures w.in-Hear.is)
           ∙ came_quiet w.slot_heard-bus.result c.ahead-ahead.result.to 0 w.there_is-in-Hear.ensures w.if-there_is-2.false)
       | in-Pass w ↦ passed w.bus-is (next_is c.loop-f.bus c.loop-f.place _ c.ahead-ahead.ensures w.in-Pass.is)
-      ] in
+    ] in
     (c.loop-f.invariant.0, rw c.before-place.ensures (goes_on c.loop-f.invariant.0 c.loop-f.invariant.1 over (ap not c.if-ends.false)))

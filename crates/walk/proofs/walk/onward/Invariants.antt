@@ -1,15 +1,7 @@
 -- `walk::walk::onward` meets its contract: enough turns are left for what is to go.
-use borrow.Author.Rules.{rules}
-use mathlib.Core.Path.{◌≡◌, refl, ap, ◌∙◌}
-use mathlib.Core.Bool.{not}
-use mathlib.Core.Logic.{⊎_elim}
-use native.Mathlib.Omega.{arith}
-use Rattle.walk.specs.declared.walk.Moment.TheVariants.{Passed}
-use Rattle.walk.specs.declared.walk.Step.{Step}
 use Rattle.walk.specs.Field.{Bytes}
-use Rattle.walk.specs.Walk.{before, stepped, next, is_end, walked, to_go}
-use Rattle.walk.proofs.Nearer.{nearer}
-use Rattle.walk.proofs.Going.{Goes, goes_first, goes_here, goes_on, next_is, came_told, came_quiet}
+use Rattle.walk.specs.Walk.{walked, to_go}
+use Rattle.walk.proofs.Going.{Goes}
 use Rattle.walk.proofs.walk.onward.Given as goal
 
 abbrev pub invariant-loop-f : goal.invariant-loop-f

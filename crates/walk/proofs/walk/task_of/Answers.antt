@@ -1,5 +1,4 @@
 -- `walk::walk::task_of` meets its contract.
-use borrow.Author.Rules.{rules}
 use Rattle.walk.proofs.walk.task_of.Goals as goal
 
 pub returns-in-Master : goal.returns-in-Master

@@ -1,5 +1,5 @@
 -- `wire::form::answer_form` meets its contract: nothing stands before NN.
-use Rattle.std.proofs.Common.{ℕ, List, [], sym, ap, ◌∙◌, arith, rules}
+use Rattle.std.proofs.Common.{ℕ, List, [], sym, ap, ◌∙◌, arith}
 use Rattle.wire.specs.Form.{holding, form, bytes_of, answer_form}
 use Rattle.wire.proofs.Buffer.{held_len, held_front}
 use Rattle.wire.proofs.form.answer_form.Goals as goal

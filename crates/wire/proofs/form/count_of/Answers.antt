@@ -1,5 +1,4 @@
 -- `wire::form::count_of` meets its contract.
-use Rattle.std.proofs.Common.{rules}
 use Rattle.wire.specs.Form.{count_of}
 use Rattle.wire.proofs.form.count_of.Goals as goal
 

@@ -1,5 +1,5 @@
 -- `wire::form::part_form` meets its contract: the buffer holds the head, NN and the bytes so far.
-use Rattle.std.proofs.Common.{◌≡◌, ℕ, ◌+◌, ◌-◌, ◌*◌, ◌<◌, ◌≤◌, List, [], ◌∷◌, ◌++◌, length, sym, ap, ◌∙◌, arith, length-append, rules}
+use Rattle.std.proofs.Common.{◌≡◌, ℕ, ◌+◌, ◌*◌, ◌<◌, ◌≤◌, List, [], ◌∷◌, ◌++◌, length, sym, ap, ◌∙◌, arith, length-append, rules}
 use Rattle.wire.specs.declared.form.Wire.{Wire}
 use Rattle.wire.specs.Form.{room, appended, holding, held_by, count_of}
 use Rattle.wire.proofs.Buffer.{appended_holding, held_len, held_front, held_room}

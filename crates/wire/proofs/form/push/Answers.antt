@@ -1,5 +1,5 @@
 -- `wire::form::push` meets its contract.
-use Rattle.std.proofs.Common.{refl, rules}
+use Rattle.std.proofs.Common.{refl}
 use Rattle.wire.specs.Form.{appended}
 use Rattle.wire.proofs.form.push.Goals as goal
 

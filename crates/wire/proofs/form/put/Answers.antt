@@ -1,5 +1,5 @@
 -- `wire::form::put` meets its contract: the symbols that it pushes are the byte's expansion.
-use Rattle.std.proofs.Common.{◌≡◌, ℕ, [], ◌∷◌, sym, ap, ◌∙◌, arith, rules}
+use Rattle.std.proofs.Common.{◌≡◌, ℕ, [], ◌∷◌, sym, ap, ◌∙◌, arith}
 use Rattle.wire.specs.declared.form.Wire.{Wire}
 use Rattle.wire.specs.declared.symbol.Kind.TheVariants.{Syn, Escape, Count, Plain}
 use Rattle.wire.specs.Pair.{expand_one}

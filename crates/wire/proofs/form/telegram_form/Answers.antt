@@ -1,5 +1,5 @@
 -- `wire::form::telegram_form` meets its contract: QQ ZZ PB SB stand before NN.
-use Rattle.std.proofs.Common.{ℕ, List, sym, ap, ◌∙◌, arith, rules}
+use Rattle.std.proofs.Common.{ℕ, List, sym, ap, ◌∙◌, arith}
 use Rattle.wire.specs.Form.{holding, form, head_of, bytes_of, telegram_form}
 use Rattle.wire.proofs.Buffer.{held_len, held_front, four_stored}
 use Rattle.wire.proofs.form.telegram_form.Goals as goal

@@ -1,6 +1,5 @@
 -- `wire::pair::first` meets its contract.
 use Rattle.wire.specs.Pair.{undo_first}
-use Rattle.std.proofs.Common.{rules}
 use Rattle.wire.proofs.pair.first.Goals as goal
 
 pub returns-in-Syn : goal.returns-in-Syn

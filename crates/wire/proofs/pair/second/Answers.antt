@@ -1,5 +1,4 @@
 -- `wire::pair::second` meets its contract.
-use Rattle.std.proofs.Common.{rules, ne_eqb}
 use Rattle.wire.specs.Pair.{undo_second}
 use Rattle.wire.proofs.pair.second.Goals as goal
 

@@ -1,6 +1,5 @@
 -- `wire::pair::undo` meets its contract.
 use Rattle.wire.specs.Pair.{undo}
-use Rattle.std.proofs.Common.{rules}
 use Rattle.wire.proofs.pair.undo.Goals as goal
 
 pub returns-then-opened : goal.returns-then-opened

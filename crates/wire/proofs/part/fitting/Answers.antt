@@ -1,5 +1,5 @@
 -- `wire::part::fitting` meets its contract.
-use Rattle.std.proofs.Common.{◌≤◌, arith, rules}
+use Rattle.std.proofs.Common.{◌≤◌, arith}
 use Rattle.laws.proofs.AtMost.{at_most_room}
 use Rattle.wire.specs.Load.{fitting}
 use Rattle.wire.proofs.part.fitting.Goals as goal

@@ -1,6 +1,5 @@
 -- `wire::symbol::kind_of` meets its contract: the range up to 16 is a test for less than 17.
-use Rattle.std.proofs.Common.{arith, eq-eqb, ne_eqb, le-leb}
-use borrow.Author.Tests.{lt-leb}
+use Rattle.std.proofs.Common.{eq-eqb}
 use Rattle.wire.specs.Symbol.{kind_of}
 use Rattle.wire.proofs.symbol.kind_of.Goals as goal
 

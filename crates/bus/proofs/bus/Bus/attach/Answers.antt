@@ -1,6 +1,5 @@
 -- `bus::bus::Bus::attach` meets its contract.
 use Rattle.bus.specs.Attach.{attaches}
-use Rattle.std.proofs.Common.{rules}
 use Rattle.bus.proofs.bus.Bus.attach.Goals as goal
 
 pub returns-then-self : goal.returns-then-self

@@ -1,5 +1,4 @@
 -- `bus::bus::Bus::attached` meets its contract.
-use Rattle.std.proofs.Common.{rules}
 use Rattle.bus.specs.Bus.{attached_to}
 use Rattle.bus.proofs.bus.Bus.attached.Goals as goal
 

@@ -1,6 +1,5 @@
 -- `bus::bus::Bus::elapsed` meets its contract.
 use Rattle.bus.specs.Time.{elapsed}
-use Rattle.std.proofs.Common.{rules}
 use Rattle.bus.proofs.bus.Bus.elapsed.Goals as goal
 
 pub returns-then-there_is : goal.returns-then-there_is

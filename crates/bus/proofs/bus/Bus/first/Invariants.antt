@@ -1,11 +1,8 @@
 -- `bus::bus::Bus::first` meets its contract.
-use Rattle.std.proofs.Common.{◌≡◌, ◌-◌, ◌<◌, ◌≤◌, length, drop, sym, refl, ◌∙◌, arith, rules}
+use Rattle.std.proofs.Common.{◌≡◌, ◌-◌, ◌≤◌, length, drop}
 use Rattle.laws.specs.First.{first_from}
-use Rattle.laws.proofs.First.{found_here, not_here, found_nowhere}
-use Rattle.laws.proofs.Lists.{length_mapped}
-use Rattle.bus.specs.Bus.{seats, unseated, attached_to, attached_turns}
+use Rattle.bus.specs.Bus.{seats, attached_to, attached_turns}
 use Rattle.bus.specs.Find.{meets, first_of}
-use Rattle.bus.proofs.Loops.{attached_fit}
 use Rattle.bus.proofs.bus.Bus.first.Given as goal
 
 abbrev pub invariant-loop-i : goal.invariant-loop-i

@@ -1,5 +1,4 @@
 -- `bus::bus::Bus::next` meets its contract.
-use Rattle.std.proofs.Common.{rules}
 use Rattle.bus.specs.Waiting.{next_of}
 use Rattle.bus.proofs.bus.Bus.next.Goals as goal
 

@@ -1,6 +1,5 @@
 -- `bus::bus::Bus::occupied` meets its contract.
 use Rattle.bus.specs.Attach.{occupied}
-use Rattle.std.proofs.Common.{rules}
 use Rattle.bus.proofs.bus.Bus.occupied.Goals as goal
 
 pub returns-then-there_is : goal.returns-then-there_is

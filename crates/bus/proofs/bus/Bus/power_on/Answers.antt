@@ -1,6 +1,5 @@
 -- `bus::bus::Bus::power_on` meets its contract.
 use Rattle.bus.specs.Bus.{powered_on}
-use Rattle.std.proofs.Common.{rules}
 use Rattle.bus.proofs.bus.Bus.power_on.Goals as goal
 
 pub returns : goal.returns

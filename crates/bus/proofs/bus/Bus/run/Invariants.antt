@@ -1,20 +1,14 @@
 -- `bus::bus::Bus::run` meets its contract. The invariant of the outer loop: what is left to run comes to what the whole run
 -- comes to, and the measure is what is left; of the inner two: the word and whether anybody is restless, and the turns and
 -- whether anybody was told something, and owns, each as far as the stations have been passed.
-use Rattle.std.proofs.Common.{◌≡◌, ℕ, ◌+◌, ◌-◌, ◌%◌, ◌^◌, ◌<◌, ◌≤◌, Bool, true, false, [], length, take, sym, refl, ap, ◌∙◌, arith, rules}
+use Rattle.std.proofs.Common.{◌≡◌, ◌-◌, ◌≤◌, length, take}
 use Rattle.laws.specs.First.{first_from, is_found}
-use Rattle.laws.proofs.Lists.{length_mapped}
-use Rattle.station.specs.declared.station.Turn.{Turn}
-use Rattle.bus.specs.declared.bus.Bus.{Bus}
-use Rattle.bus.specs.declared.find.Query.TheVariants.{WasTold, Restless, ToldOwns}
+use Rattle.bus.specs.declared.find.Query.TheVariants.{WasTold, Restless}
 use Rattle.bus.specs.Bus.{seats, attached_to}
 use Rattle.bus.specs.Find.{meets}
 use Rattle.bus.specs.Run.{runs}
-use Rattle.bus.specs.Slot.{generator_says, generator_next, spoken_with, turned, map_first, owns_among}
+use Rattle.bus.specs.Slot.{generator_says, spoken_with, turned, map_first, owns_among}
 use Rattle.bus.specs.Waiting.{bids_among}
-use Rattle.bus.proofs.Loops.{attached_fit, spoken_turn, spoken_passed, length_map_first, map_first_turn, map_first_passed, found_turn, found_passed, found_set, bids_passed, bids_set, all_spoken, all_asked, same_count}
-use Rattle.bus.proofs.PassedBy.{mute_says, still_untold, still_unowned, still_unbid, still_turned}
-use Rattle.bus.proofs.Strides.{tens_on, tens_less, began_is, waiting_is, slot_is, stops, continues, ends}
 use Rattle.bus.proofs.bus.Bus.run.Given as goal
 
 abbrev pub invariant-loop-i : goal.invariant-loop-i

@@ -1,6 +1,6 @@
 -- `bus::bus::Bus::seat` meets its contract.
 use Rattle.bus.specs.Bus.{with_turn}
-use Rattle.std.proofs.Common.{rules, le-ltb, lt-ltb}
+use Rattle.std.proofs.Common.{le-ltb, lt-ltb}
 use Rattle.bus.specs.Attach.{takes_seat}
 use Rattle.bus.proofs.bus.Bus.seat.Goals as goal
 

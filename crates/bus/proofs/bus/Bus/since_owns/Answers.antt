@@ -1,5 +1,5 @@
 -- `bus::bus::Bus::since_owns` meets its contract.
-use Rattle.std.proofs.Common.{arith, rules}
+use Rattle.std.proofs.Common.{arith}
 use Rattle.bus.proofs.bus.Bus.since_owns.Goals as goal
 
 pub returns : goal.returns

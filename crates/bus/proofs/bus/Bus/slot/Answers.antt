@@ -1,6 +1,5 @@
 -- `bus::bus::Bus::slot` meets its contract.
 use Rattle.bus.specs.Slot.{slot_run}
-use Rattle.std.proofs.Common.{rules}
 use Rattle.bus.proofs.bus.Bus.slot.Goals as goal
 
 pub returns : goal.returns

@@ -1,15 +1,8 @@
 -- `bus::bus::Bus::slot_heard` meets its contract.
-use Rattle.std.proofs.Common.{◌≡◌, ℕ, ◌+◌, ◌-◌, ◌%◌, ◌^◌, ◌<◌, ◌≤◌, false, [], length, sym, refl, ap, ◌∙◌, arith, rules}
-use Rattle.laws.specs.First.{first_from}
-use Rattle.laws.proofs.Lists.{length_mapped}
-use Rattle.bus.specs.declared.find.Query.TheVariants.{ToldOwns}
+use Rattle.std.proofs.Common.{◌≡◌, ◌-◌, ◌≤◌, length}
 use Rattle.bus.specs.Bus.{seats, attached_to}
-use Rattle.bus.specs.Find.{meets}
 use Rattle.bus.specs.Slot.{turned, map_first, owns_among}
 use Rattle.bus.specs.Waiting.{bids_among}
-use Rattle.bus.proofs.Loops.{attached_fit, length_map_first, map_first_turn, map_first_passed, found_passed, found_set, bids_passed, bids_set}
-use Rattle.bus.proofs.PassedBy.{still_unowned, still_unbid, still_turned}
-use Rattle.bus.proofs.Strides.{heard_is, began_is, waiting_is}
 use Rattle.bus.proofs.bus.Bus.slot_heard.Given as goal
 
 abbrev pub invariant-loop-i : goal.invariant-loop-i

@@ -1,8 +1,7 @@
 -- `bus::bus::Bus::spoken` meets its contract.
-use Rattle.std.proofs.Common.{◌≡◌, ◌-◌, ◌<◌, ◌≤◌, length, take, sym, ◌∙◌, arith, rules}
+use Rattle.std.proofs.Common.{◌<◌, length, sym, ◌∙◌, arith, rules}
 use Rattle.laws.proofs.Lists.{length_mapped}
-use Rattle.bus.specs.Bus.{seats, attached_to}
-use Rattle.bus.specs.Slot.{generator_says, spoken_with}
+use Rattle.bus.specs.Slot.{generator_says}
 use Rattle.bus.proofs.Loops.{attached_fit, spoken_turn, spoken_passed, all_spoken}
 use Rattle.bus.proofs.PassedBy.{mute_says}
 use Rattle.bus.proofs.bus.Bus.spoken.Goals as goal

@@ -1,6 +1,5 @@
 -- `bus::bus::Bus::there_is` meets its contract.
 use Rattle.bus.specs.Find.{there_is}
-use Rattle.std.proofs.Common.{rules}
 use Rattle.bus.proofs.bus.Bus.there_is.Goals as goal
 
 pub returns-in-At : goal.returns-in-At

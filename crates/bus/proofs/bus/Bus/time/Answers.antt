@@ -1,6 +1,5 @@
 -- `bus::bus::Bus::time` meets its contract.
 use Rattle.bus.specs.Time.{time_of}
-use Rattle.std.proofs.Common.{rules}
 use Rattle.bus.proofs.bus.Bus.time.Goals as goal
 
 pub returns : goal.returns

@@ -1,5 +1,4 @@
 -- `bus::bus::Bus::time_if_free` meets its contract.
-use Rattle.std.proofs.Common.{rules}
 use Rattle.bus.proofs.bus.Bus.time_if_free.Goals as goal
 
 pub returns : goal.returns

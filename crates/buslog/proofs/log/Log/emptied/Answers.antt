@@ -1,6 +1,5 @@
 -- `log::log::Log::emptied` meets its contract.
 use Rattle.buslog.specs.Log.{emptied}
-use borrow.Author.Rules.{rules}
 use Rattle.buslog.proofs.log.Log.emptied.Goals as goal
 
 pub returns : goal.returns

@@ -3,7 +3,6 @@ use mathlib.Core.Path.{sym, ap, ◌∙◌}
 use Rattle.buslog.specs.declared.log.Said.TheVariants.{Done}
 use Rattle.buslog.specs.Ring.{Ring}
 use Rattle.buslog.specs.Note.{kept, note_in}
-use borrow.Author.Rules.{rules}
 use Rattle.buslog.proofs.log.Log.note.Goals as goal
 
 pub returns-then-is_of : goal.returns-then-is_of

@@ -1,6 +1,5 @@
 -- `log::log::Log::read` meets its contract.
 use mathlib.Core.Path.{sym, ◌∙◌}
-use borrow.Author.Rules.{rules}
 use Rattle.buslog.specs.Read.{read_into}
 use Rattle.buslog.proofs.log.Log.read.Goals as goal
 

@@ -1,6 +1,5 @@
 -- `log::log::Log::record` meets its contract.
 use mathlib.Core.Path.{sym, ◌∙◌}
-use borrow.Author.Rules.{rules}
 use Rattle.buslog.specs.Read.{record_into}
 use Rattle.buslog.proofs.log.Log.record.Goals as goal
 

@@ -1,7 +1,6 @@
 -- `log::log::Log::set_up` meets its contract.
 use borrow.Author.Tests.{lt-ltb, le-ltb}
 use Rattle.buslog.specs.Log.{within_limits, set_up_for}
-use borrow.Author.Rules.{rules}
 use Rattle.buslog.proofs.log.Log.set_up.Goals as goal
 
 pub returns-then-n-lt-FEWEST : goal.returns-then-n-lt-FEWEST

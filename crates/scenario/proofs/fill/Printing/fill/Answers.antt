@@ -1,5 +1,4 @@
 -- `scenario::fill::Printing::fill` meets its contract.
-use borrow.Author.Rules.{rules}
 use mathlib.Core.Path.{ap, ◌∙◌}
 use Rattle.scenario.specs.declared.fill.Stage.{Stage}
 use Rattle.scenario.specs.Fill.{opened, filled_as, filled}

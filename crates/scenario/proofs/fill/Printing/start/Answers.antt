@@ -1,5 +1,4 @@
 -- `scenario::fill::Printing::start` meets its contract.
-use borrow.Author.Rules.{rules}
 use Rattle.scenario.specs.Fill.{started}
 use Rattle.scenario.proofs.fill.Printing.start.Goals as goal
 

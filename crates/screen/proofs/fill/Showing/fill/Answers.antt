@@ -2,13 +2,9 @@
 use mathlib.Core.Path.{sym, ◌∙◌}
 use mathlib.Core.Bool.{true, false}
 use native.Mathlib.Omega.{arith}
-use borrow.Author.Rules.{rules}
-use Rattle.walk.specs.Field.{Bytes}
-use Rattle.walk.specs.Walk.{to_go}
 use Rattle.walk.proofs.Going.{walked_nearer}
-use Rattle.scenario.specs.Pen.{pen}
 use Rattle.screen.specs.Fill.{so_far, filled}
-use Rattle.screen.proofs.Filling.{FillsTo, fills_first, fills_full, fills_end, fills_on, shown_is}
+use Rattle.screen.proofs.Filling.{fills_first, fills_full, fills_end, fills_on, shown_is}
 use Rattle.screen.proofs.fill.Showing.fill.Goals as goal
 
 pub loop-used-init : goal.loop-used-init
@@ -26,12 +22,11 @@ loop-used-smaller c =
     (walked_nearer c.loop-used.bus c.loop-used.place _ true c.loop-used.invariant.0 (rw (← c.onward-step.ensures) (sym c.is_end.ensures ∙ c.if-is_end.false)))
 
 pub loop-used-preserved : goal.loop-used-preserved
-loop-used-preserved c =
-    (
-      c.loop-used.invariant.0,
-      fills_on c.loop-used.invariant.0 c.loop-used.invariant.1 c.loop-used-test.true c.onward-step.ensures (sym c.is_end.ensures ∙ c.if-is_end.false)
-          (shown_is _ c.onward-step.result.moment c.onward-step.result.bus c.shown-used.ensures c.next.ensures),
-    )
+loop-used-preserved c = (
+  c.loop-used.invariant.0,
+  fills_on c.loop-used.invariant.0 c.loop-used.invariant.1 c.loop-used-test.true c.onward-step.ensures (sym c.is_end.ensures ∙ c.if-is_end.false)
+      (shown_is _ c.onward-step.result.moment c.onward-step.result.bus c.shown-used.ensures c.next.ensures),
+)
 
 pub returns : goal.returns
 unfolding filled

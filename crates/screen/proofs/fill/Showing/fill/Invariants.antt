@@ -1,14 +1,10 @@
 -- `screen::fill::Showing::fill` meets its contract: enough turns are left for what is to go.
-use mathlib.Core.Path.{sym, ◌∙◌}
-use mathlib.Core.Bool.{true, false}
-use native.Mathlib.Omega.{arith}
-use borrow.Author.Rules.{rules}
+use mathlib.Core.Bool.{false}
 use Rattle.walk.specs.Field.{Bytes}
 use Rattle.walk.specs.Walk.{to_go}
-use Rattle.walk.proofs.Going.{walked_nearer}
 use Rattle.scenario.specs.Pen.{pen}
 use Rattle.screen.specs.Fill.{so_far, filled}
-use Rattle.screen.proofs.Filling.{FillsTo, fills_first, fills_full, fills_end, fills_on, shown_is}
+use Rattle.screen.proofs.Filling.{FillsTo}
 use Rattle.screen.proofs.fill.Showing.fill.Given as goal
 
 abbrev pub invariant-loop-used : goal.invariant-loop-used

@@ -1,6 +1,5 @@
 -- `screen::fill::Showing::start` meets its contract.
 use Rattle.screen.specs.Fill.{started}
-use borrow.Author.Rules.{rules}
 use Rattle.screen.proofs.fill.Showing.start.Goals as goal
 
 pub returns : goal.returns

@@ -1,7 +1,6 @@
 -- `station::outbox::Outbox::accept` meets its contract.
 use borrow.Author.Tests.{lt-ltb, le-ltb}
 use Rattle.station.specs.Outbox.{accepted}
-use borrow.Author.Rules.{rules}
 use Rattle.station.proofs.outbox.Outbox.accept.Goals as goal
 
 pub returns-then-n-lt-QUEUE_DEPTH : goal.returns-then-n-lt-QUEUE_DEPTH

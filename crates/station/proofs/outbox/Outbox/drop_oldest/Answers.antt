@@ -1,10 +1,10 @@
 -- `station::outbox::Outbox::drop_oldest` meets its contract. After i turns the first i places hold what stood one place on.
 --
 use mathlib.Core.Path.{◌≡◌, refl}
-use Prim.Native.Nat.{◌≤◌, ◌<◌, ◌-◌, ◌+◌}
+use Prim.Native.Nat.{◌<◌, ◌-◌, ◌+◌}
 use native.Mathlib.Omega.{arith}
 use lib.ListN.{length}
-use Rattle.laws.proofs.Lists.{length_mapped, moved_up, moved_up_turn, moved_up_all}
+use Rattle.laws.proofs.Lists.{length_mapped, moved_up_turn, moved_up_all}
 use borrow.Author.Rules.{rules}
 use borrow.Author.Tests.{eq-eqb, ne_eqb}
 use Rattle.station.specs.Outbox.{queue_depth, dropped}

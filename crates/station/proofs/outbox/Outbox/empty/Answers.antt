@@ -1,6 +1,5 @@
 -- `station::outbox::Outbox::empty` meets its contract.
 use Rattle.station.specs.Outbox.{none_held}
-use borrow.Author.Rules.{rules}
 use Rattle.station.proofs.outbox.Outbox.empty.Goals as goal
 
 pub returns : goal.returns

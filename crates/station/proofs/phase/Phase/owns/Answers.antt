@@ -1,6 +1,5 @@
 -- `station::phase::Phase::owns` meets its contract.
 use Rattle.station.specs.Phase.{owner}
-use borrow.Author.Rules.{rules}
 use Rattle.station.proofs.phase.Phase.owns.Goals as goal
 
 pub returns-in-Reading : goal.returns-in-Reading

@@ -1,6 +1,5 @@
 -- `station::read::Next::addressed` meets its contract.
 use Rattle.station.specs.Table.{addressed}
-use borrow.Author.Rules.{rules}
 use Rattle.station.proofs.read.Next.addressed.Goals as goal
 
 pub returns-then-own : goal.returns-then-own

@@ -1,5 +1,4 @@
 -- `station::read::Next::lost` meets its contract.
-use borrow.Author.Rules.{rules}
 use Rattle.station.proofs.read.Next.lost.Goals as goal
 
 pub returns-in-MasterPart : goal.returns-in-MasterPart

@@ -1,6 +1,5 @@
 -- `station::read::Next::read_on` meets its contract.
 use Rattle.std.proofs.Common.{◌≡◌, ◌≢◌, refl}
-use borrow.Author.Rules.{rules}
 use Rattle.wire.specs.declared.reader.Place.{Place}
 use Rattle.wire.specs.declared.reader.Place.TheVariants.{Qq, Zz, Pb, Sb, Nn, Data, Crc}
 use Rattle.station.specs.declared.phase.Phase.{Phase}

@@ -1,6 +1,5 @@
 -- `station::read::Next::whole` meets its contract.
 use Rattle.station.specs.Table.{whole}
-use borrow.Author.Rules.{rules}
 use Rattle.station.proofs.read.Next.whole.Goals as goal
 
 pub returns-then-matched : goal.returns-then-matched

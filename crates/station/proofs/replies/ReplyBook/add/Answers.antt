@@ -1,7 +1,6 @@
 -- `station::replies::ReplyBook::add` meets its contract.
 use borrow.Author.Tests.{lt-ltb, le-ltb}
 use Rattle.station.specs.Replies.{added, with_entry}
-use borrow.Author.Rules.{rules}
 use Rattle.station.proofs.replies.ReplyBook.add.Goals as goal
 
 pub returns-then-n-lt-REPLY_ENTRIES : goal.returns-then-n-lt-REPLY_ENTRIES

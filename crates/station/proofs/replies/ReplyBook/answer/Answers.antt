@@ -1,6 +1,5 @@
 -- `station::replies::ReplyBook::answer` meets its contract.
 use Rattle.station.specs.Replies.{answer_for}
-use borrow.Author.Rules.{rules}
 use Rattle.station.proofs.replies.ReplyBook.answer.Goals as goal
 
 pub returns-in-At : goal.returns-in-At

@@ -1,5 +1,4 @@
 -- `station::replies::ReplyBook::count` meets its contract.
-use borrow.Author.Rules.{rules}
 use Rattle.station.specs.Replies.{count_in}
 use Rattle.station.proofs.replies.ReplyBook.count.Goals as goal
 

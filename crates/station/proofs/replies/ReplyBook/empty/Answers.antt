@@ -1,6 +1,5 @@
 -- `station::replies::ReplyBook::empty` meets its contract.
 use Rattle.station.specs.Replies.{no_entries}
-use borrow.Author.Rules.{rules}
 use Rattle.station.proofs.replies.ReplyBook.empty.Goals as goal
 
 pub returns : goal.returns

@@ -3,13 +3,12 @@ use borrow.Author.Rules.{rules}
 use mathlib.Core.Path.{◌≡◌, refl, sym, ap, ◌∙◌}
 use Rattle.station.specs.declared.replies.Reply.{Reply}
 use mathlib.Core.Bool.{true, false}
-use Prim.Native.Nat.{◌≤◌, ◌<◌, ◌-◌}
+use Prim.Native.Nat.{◌≤◌, ◌<◌}
 use native.Mathlib.Omega.{arith}
-use lib.ListN.{length, take, drop}
+use lib.ListN.{length}
 use Rattle.laws.proofs.Lists.{length_mapped}
-use Rattle.laws.specs.First.{first_from}
 use Rattle.laws.proofs.First.{found_here, not_here, found_nowhere}
-use Rattle.station.specs.Replies.{reply_entries, no_reply, is_for, entry_of, count_in, entry_at}
+use Rattle.station.specs.Replies.{no_reply, is_for, entry_of, count_in, entry_at}
 use Rattle.station.proofs.Entries.{count_fits}
 use Rattle.station.proofs.replies.ReplyBook.find.Goals as goal
 

@@ -1,16 +1,9 @@
 -- `station::replies::ReplyBook::find` meets its contract.
-use borrow.Author.Rules.{rules}
-use mathlib.Core.Path.{◌≡◌, refl, sym, ap, ◌∙◌}
-use Rattle.station.specs.declared.replies.Reply.{Reply}
-use mathlib.Core.Bool.{true, false}
-use Prim.Native.Nat.{◌≤◌, ◌<◌, ◌-◌}
-use native.Mathlib.Omega.{arith}
+use mathlib.Core.Path.{◌≡◌}
+use Prim.Native.Nat.{◌≤◌, ◌-◌}
 use lib.ListN.{length, take, drop}
-use Rattle.laws.proofs.Lists.{length_mapped}
 use Rattle.laws.specs.First.{first_from}
-use Rattle.laws.proofs.First.{found_here, not_here, found_nowhere}
-use Rattle.station.specs.Replies.{reply_entries, no_reply, is_for, entry_of, count_in, entry_at}
-use Rattle.station.proofs.Entries.{count_fits}
+use Rattle.station.specs.Replies.{reply_entries, is_for, entry_of, count_in}
 use Rattle.station.proofs.replies.ReplyBook.find.Given as goal
 
 abbrev pub invariant-loop-i : goal.invariant-loop-i

@@ -1,6 +1,5 @@
 -- `station::replies::ReplyBook::write` meets its contract.
 use Rattle.station.specs.Replies.{written}
-use borrow.Author.Rules.{rules}
 use Rattle.station.proofs.replies.ReplyBook.write.Goals as goal
 
 pub returns-in-At : goal.returns-in-At

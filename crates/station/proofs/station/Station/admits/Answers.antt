@@ -1,6 +1,5 @@
 -- `station::station::Station::admits` meets its contract.
 use Rattle.station.specs.Admission.{admits}
-use borrow.Author.Rules.{rules}
 use Rattle.station.proofs.station.Station.admits.Goals as goal
 
 pub returns-in-Nothing : goal.returns-in-Nothing

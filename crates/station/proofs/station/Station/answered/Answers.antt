@@ -1,6 +1,5 @@
 -- `station::station::Station::answered` meets its contract.
 use Rattle.station.specs.Addressed.{answered}
-use borrow.Author.Rules.{rules}
 use Rattle.station.proofs.station.Station.answered.Goals as goal
 
 pub returns-then-is_master : goal.returns-then-is_master

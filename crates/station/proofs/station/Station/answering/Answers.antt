@@ -1,6 +1,5 @@
 -- `station::station::Station::answering` meets its contract.
 use Rattle.station.specs.Station.{answering}
-use borrow.Author.Rules.{rules}
 use Rattle.station.proofs.station.Station.answering.Goals as goal
 
 pub returns : goal.returns

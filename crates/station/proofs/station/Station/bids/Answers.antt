@@ -1,6 +1,5 @@
 -- `station::station::Station::bids` meets its contract.
 use Rattle.station.specs.Admission.{bids}
-use borrow.Author.Rules.{rules}
 use Rattle.station.proofs.station.Station.bids.Goals as goal
 
 pub returns-then-self : goal.returns-then-self

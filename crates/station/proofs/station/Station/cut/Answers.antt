@@ -1,6 +1,5 @@
 -- `station::station::Station::cut` meets its contract.
 use Rattle.station.specs.Hear.{cut}
-use borrow.Author.Rules.{rules}
 use Rattle.station.proofs.station.Station.cut.Goals as goal
 
 pub returns-in-Silent : goal.returns-in-Silent

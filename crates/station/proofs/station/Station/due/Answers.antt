@@ -1,7 +1,6 @@
 -- `station::station::Station::due` meets its contract.
 use borrow.Author.Tests.{lt-ltb, le-ltb}
 use Rattle.station.specs.Station.{due}
-use borrow.Author.Rules.{rules}
 use Rattle.station.proofs.station.Station.due.Goals as goal
 
 pub returns-then-at-out : goal.returns-then-at-out

@@ -1,5 +1,4 @@
 -- `station::station::Station::fail_owner` meets its contract.
-use borrow.Author.Rules.{rules}
 use Rattle.station.proofs.station.Station.fail_owner.Goals as goal
 
 pub returns-in-Disturbed : goal.returns-in-Disturbed

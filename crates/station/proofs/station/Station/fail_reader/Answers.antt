@@ -1,6 +1,5 @@
 -- `station::station::Station::fail_reader` meets its contract.
 use Rattle.station.specs.Table.{reader_fails}
-use borrow.Author.Rules.{rules}
 use Rattle.station.proofs.station.Station.fail_reader.Goals as goal
 
 pub returns-in-MasterPart : goal.returns-in-MasterPart

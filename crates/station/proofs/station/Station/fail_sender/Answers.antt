@@ -1,6 +1,5 @@
 -- `station::station::Station::fail_sender` meets its contract.
 use Rattle.station.specs.Table.{sender_fails}
-use borrow.Author.Rules.{rules}
 use Rattle.station.proofs.station.Station.fail_sender.Goals as goal
 
 pub returns-in-MasterPart : goal.returns-in-MasterPart

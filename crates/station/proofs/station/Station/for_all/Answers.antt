@@ -1,6 +1,5 @@
 -- `station::station::Station::for_all` meets its contract.
 use Rattle.station.specs.Addressed.{for_all}
-use borrow.Author.Rules.{rules}
 use Rattle.station.proofs.station.Station.for_all.Goals as goal
 
 pub returns-in-Master : goal.returns-in-Master

@@ -1,6 +1,5 @@
 -- `station::station::Station::fresh` meets its contract.
 use Rattle.station.specs.Station.{fresh}
-use borrow.Author.Rules.{rules}
 use Rattle.station.proofs.station.Station.fresh.Goals as goal
 
 pub returns : goal.returns

@@ -1,6 +1,5 @@
 -- `station::station::Station::hand_out` meets its contract.
 use Rattle.station.specs.Table.{handed_out}
-use borrow.Author.Rules.{rules}
 use Rattle.station.proofs.station.Station.hand_out.Goals as goal
 
 pub returns-then-answered : goal.returns-then-answered

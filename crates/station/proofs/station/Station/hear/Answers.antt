@@ -1,7 +1,6 @@
 -- `station::station::Station::hear` meets its contract.
 use borrow.Author.Tests.{eq-eqb, ne_eqb}
 use Rattle.station.specs.Hear.{hears}
-use borrow.Author.Rules.{rules}
 use Rattle.station.proofs.station.Station.hear.Goals as goal
 
 pub returns-in_default : goal.returns-in_default

@@ -3,7 +3,6 @@ use borrow.Author.Tests.{eq-eqb, ne_eqb}
 use mathlib.Core.Path.{sym, ◌∙◌}
 use Rattle.station.specs.Table.{hear_own}
 use Rattle.station.proofs.Due.{due_within}
-use borrow.Author.Rules.{rules}
 use Rattle.station.proofs.station.Station.hear_own.Goals as goal
 
 pub sent-requires : goal.sent-requires

@@ -1,6 +1,5 @@
 -- `station::station::Station::hear_quiet` meets its contract.
 use Rattle.station.specs.Hear.{hear_quiet}
-use borrow.Author.Rules.{rules}
 use Rattle.station.proofs.station.Station.hear_quiet.Goals as goal
 
 pub returns-in-Silent : goal.returns-in-Silent

@@ -2,7 +2,6 @@
 use mathlib.Core.Bool.{Bool, true, false}
 use mathlib.Core.Path.{◌≡◌, refl, sym, ap, ◌∙◌}
 use Prim.Native.Nat.{ℕ}
-use borrow.Author.Rules.{rules}
 use borrow.Author.Tests.{eq-eqb, ne_eqb}
 use Rattle.wire.specs.Reader.{read_one}
 use Rattle.wire.specs.declared.reader.Cursor.{Cursor}
@@ -13,7 +12,6 @@ use Rattle.station.specs.declared.phase.Attempt.{Attempt}
 use Rattle.station.specs.declared.phase.Since.{Since}
 use Rattle.station.specs.declared.read.Next.{Next}
 use Rattle.station.specs.declared.station.Station.{Station}
-use Rattle.station.specs.declared.station.Turn.{Turn}
 use Rattle.station.specs.Addressed.{is_own}
 use Rattle.station.specs.Admission.{since_next, bids, noted, withdrawn}
 use Rattle.station.specs.Table.{reads_as, reads_step, reads, hear_bid, hear_reading}
@@ -77,16 +75,16 @@ unfolding goes
 returns c =
     made c.if-bids.self _ _ _ _ _ _ _ _ c.read-step.ensures c.is_own-own.ensures
     (λ u z o. elim c.match-outcome.branch [
-      in-More w ↦ goes-as u _ _ _ _ _ _ _ w.in-More.is w.next-is (w.read_on-next.ensures u z o)
-    | in-Cut w ↦ goes-as u _ _ _ _ _ _ _ w.in-Cut.is w.next-is (w.lost-next.ensures u refl)
-    | in-NoMaster w ↦ goes-as u _ _ _ _ _ _ _ w.in-NoMaster.is w.next-is (w.lost-next-in-NoMaster.ensures u refl)
-    | in-Unusable w ↦ goes-as u _ _ _ _ _ _ _ w.in-Unusable.is w.next-is (w.lost-next-in-Unusable.ensures u refl)
-    | in-TooLong w ↦ goes-as u _ _ _ _ _ _ _ w.in-TooLong.is w.next-is (w.lost-next-in-TooLong.ensures u refl)
-    | in-BrokenPair w ↦ goes-as u _ _ _ _ _ _ _ w.in-BrokenPair.is w.next-is (w.lost-next-in-BrokenPair.ensures u refl)
-    | in-Whole w ↦ goes-as u _ _ _ _ _ _ _ w.in-Whole.is w.next-is (w.whole-next.ensures u z)
+      | in-More w ↦ goes-as u _ _ _ _ _ _ _ w.in-More.is w.next-is (w.read_on-next.ensures u z o)
+      | in-Cut w ↦ goes-as u _ _ _ _ _ _ _ w.in-Cut.is w.next-is (w.lost-next.ensures u refl)
+      | in-NoMaster w ↦ goes-as u _ _ _ _ _ _ _ w.in-NoMaster.is w.next-is (w.lost-next-in-NoMaster.ensures u refl)
+      | in-Unusable w ↦ goes-as u _ _ _ _ _ _ _ w.in-Unusable.is w.next-is (w.lost-next-in-Unusable.ensures u refl)
+      | in-TooLong w ↦ goes-as u _ _ _ _ _ _ _ w.in-TooLong.is w.next-is (w.lost-next-in-TooLong.ensures u refl)
+      | in-BrokenPair w ↦ goes-as u _ _ _ _ _ _ _ w.in-BrokenPair.is w.next-is (w.lost-next-in-BrokenPair.ensures u refl)
+      | in-Whole w ↦ goes-as u _ _ _ _ _ _ _ w.in-Whole.is w.next-is (w.whole-next.ensures u z)
     ])
     c.next.ensures
     ∙ elim c.if-bids.branch [
-      then-bids+else-s-self w ↦ bid-reads _ _ _ _ _ _ _ _ c.bids.ensures w.if-bids.true w.if-s-self.false w.marks.ensures w.self-is
-    | else-bids w ↦ rest-reads _ _ _ _ _ _ _ c.bids.ensures w.if-bids.false w.self-is
+      | then-bids+else-s-self w ↦ bid-reads _ _ _ _ _ _ _ _ c.bids.ensures w.if-bids.true w.if-s-self.false w.marks.ensures w.self-is
+      | else-bids w ↦ rest-reads _ _ _ _ _ _ _ c.bids.ensures w.if-bids.false w.self-is
     ]

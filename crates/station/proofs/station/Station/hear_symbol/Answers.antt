@@ -1,6 +1,5 @@
 -- `station::station::Station::hear_symbol` meets its contract.
 use Rattle.station.specs.Hear.{hear_symbol}
-use borrow.Author.Rules.{rules}
 use Rattle.station.proofs.station.Station.hear_symbol.Goals as goal
 
 pub returns-in-Silent : goal.returns-in-Silent

@@ -1,6 +1,5 @@
 -- `station::station::Station::hear_syn` meets its contract.
 use Rattle.station.specs.Hear.{hear_syn}
-use borrow.Author.Rules.{rules}
 use Rattle.station.proofs.station.Station.hear_syn.Goals as goal
 
 pub returns : goal.returns

@@ -1,7 +1,6 @@
 -- `station::station::Station::is_own` meets its contract.
 use borrow.Author.Tests.{eq-eqb, ne_eqb}
 use Rattle.station.specs.Addressed.{is_own}
-use borrow.Author.Rules.{rules}
 use Rattle.station.proofs.station.Station.is_own.Goals as goal
 
 pub returns-then-zz-self : goal.returns-then-zz-self

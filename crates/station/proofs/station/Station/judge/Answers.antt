@@ -1,7 +1,6 @@
 -- `station::station::Station::judge` meets its contract.
 use borrow.Author.Tests.{eq-eqb, ne_eqb}
 use Rattle.station.specs.Table.{judges}
-use borrow.Author.Rules.{rules}
 use Rattle.station.proofs.station.Station.judge.Goals as goal
 
 pub returns-then-s-eq-ACK : goal.returns-then-s-eq-ACK

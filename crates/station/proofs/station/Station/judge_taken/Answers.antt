@@ -1,6 +1,5 @@
 -- `station::station::Station::judge_taken` meets its contract.
 use Rattle.station.specs.Table.{judged_taken}
-use borrow.Author.Rules.{rules}
 use Rattle.station.proofs.station.Station.judge_taken.Goals as goal
 
 pub returns-then-matched : goal.returns-then-matched

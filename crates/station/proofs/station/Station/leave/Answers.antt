@@ -1,6 +1,5 @@
 -- `station::station::Station::leave` meets its contract.
 use Rattle.station.specs.Table.{left}
-use borrow.Author.Rules.{rules}
 use Rattle.station.proofs.station.Station.leave.Goals as goal
 
 pub returns : goal.returns

@@ -1,6 +1,5 @@
 -- `station::station::Station::nak_heard` meets its contract.
 use Rattle.station.specs.Table.{nak_heard}
-use borrow.Author.Rules.{rules}
 use Rattle.station.proofs.station.Station.nak_heard.Goals as goal
 
 pub returns-in-First : goal.returns-in-First

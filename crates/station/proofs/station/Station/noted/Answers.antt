@@ -1,6 +1,5 @@
 -- `station::station::Station::noted` meets its contract.
 use Rattle.station.specs.Admission.{noted}
-use borrow.Author.Rules.{rules}
 use Rattle.station.proofs.station.Station.noted.Goals as goal
 
 pub returns : goal.returns

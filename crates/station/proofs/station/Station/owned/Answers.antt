@@ -1,6 +1,5 @@
 -- `station::station::Station::owned` meets its contract.
 use Rattle.station.specs.Admission.{owned}
-use borrow.Author.Rules.{rules}
 use Rattle.station.proofs.station.Station.owned.Goals as goal
 
 pub returns : goal.returns

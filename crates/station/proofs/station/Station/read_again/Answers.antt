@@ -1,6 +1,5 @@
 -- `station::station::Station::read_again` meets its contract.
 use Rattle.station.specs.Table.{read_again}
-use borrow.Author.Rules.{rules}
 use Rattle.station.proofs.station.Station.read_again.Goals as goal
 
 pub returns-in-First : goal.returns-in-First

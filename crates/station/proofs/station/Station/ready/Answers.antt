@@ -1,6 +1,5 @@
 -- `station::station::Station::ready` meets its contract.
 use Rattle.std.proofs.Common.{◌≡◌, ◌≢◌, refl}
-use borrow.Author.Rules.{rules}
 use Rattle.station.specs.declared.phase.Phase.{Phase}
 use Rattle.station.specs.declared.phase.Phase.TheVariants.{Silent, Reading, Sending, Awaiting, Judging, Owing, Releasing}
 use Rattle.station.specs.declared.station.Station.{Station}

@@ -1,6 +1,5 @@
 -- `station::station::Station::release` meets its contract.
 use Rattle.station.specs.Table.{released}
-use borrow.Author.Rules.{rules}
 use Rattle.station.proofs.station.Station.release.Goals as goal
 
 pub returns : goal.returns

@@ -1,6 +1,5 @@
 -- `station::station::Station::restart` meets its contract.
 use Rattle.station.specs.Admission.{restarted}
-use borrow.Author.Rules.{rules}
 use Rattle.station.proofs.station.Station.restart.Goals as goal
 
 pub returns : goal.returns

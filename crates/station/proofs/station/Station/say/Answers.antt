@@ -1,6 +1,5 @@
 -- `station::station::Station::say` meets its contract.
 use Rattle.station.specs.Station.{says}
-use borrow.Author.Rules.{rules}
 use Rattle.station.proofs.station.Station.say.Goals as goal
 
 pub returns-in-Silent : goal.returns-in-Silent

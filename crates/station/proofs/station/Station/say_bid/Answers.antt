@@ -1,6 +1,5 @@
 -- `station::station::Station::say_bid` meets its contract.
 use Rattle.station.specs.Admission.{say_bid}
-use borrow.Author.Rules.{rules}
 use Rattle.station.proofs.station.Station.say_bid.Goals as goal
 
 pub returns-then-bids : goal.returns-then-bids

@@ -1,6 +1,5 @@
 -- `station::station::Station::sent` meets its contract.
 use borrow.Author.Tests.{lt-ltb, le-ltb}
-use borrow.Author.Rules.{rules}
 use Rattle.station.specs.Table.{sent}
 use Rattle.station.proofs.station.Station.sent.Goals as goal
 

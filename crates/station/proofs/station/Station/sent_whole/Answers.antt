@@ -1,6 +1,5 @@
 -- `station::station::Station::sent_whole` meets its contract.
 use Rattle.station.specs.Table.{sent_whole}
-use borrow.Author.Rules.{rules}
 use Rattle.station.proofs.station.Station.sent_whole.Goals as goal
 
 pub returns-then-for_all : goal.returns-then-for_all

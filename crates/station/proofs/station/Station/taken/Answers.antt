@@ -1,6 +1,5 @@
 -- `station::station::Station::taken` meets its contract.
 use Rattle.station.specs.Table.{taken}
-use borrow.Author.Rules.{rules}
 use Rattle.station.proofs.station.Station.taken.Goals as goal
 
 pub returns-then-answered : goal.returns-then-answered

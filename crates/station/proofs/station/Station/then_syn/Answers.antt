@@ -1,6 +1,5 @@
 -- `station::station::Station::then_syn` meets its contract.
 use mathlib.Core.Path.{◌∙◌}
-use borrow.Author.Rules.{rules}
 use Rattle.station.proofs.station.Station.then_syn.Goals as goal
 
 pub returns : goal.returns

@@ -1,7 +1,6 @@
 -- `walk::walk::Place::ahead` meets its contract.
 use borrow.Author.Tests.{lt-ltb, le-ltb}
 use Rattle.walk.specs.Walk.{ahead_of}
-use borrow.Author.Rules.{rules}
 use Rattle.walk.proofs.walk.Place.ahead.Goals as goal
 
 pub returns-then-self : goal.returns-then-self

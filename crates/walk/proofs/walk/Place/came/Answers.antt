@@ -1,6 +1,5 @@
 -- `walk::walk::Place::came` meets its contract.
 use Rattle.walk.specs.Walk.{came_to}
-use borrow.Author.Rules.{rules}
 use Rattle.walk.proofs.walk.Place.came.Goals as goal
 
 pub returns-then-told : goal.returns-then-told

@@ -1,5 +1,5 @@
 -- `wire::part::Load::of` meets its contract: what is copied so far, and zeros behind it.
-use Rattle.std.proofs.Common.{◌≡◌, ◌+◌, ◌-◌, ◌<◌, ◌≤◌, ◌++◌, length, take, replicate, refl, arith, rules}
+use Rattle.std.proofs.Common.{◌≡◌, ◌<◌, length, refl, arith, rules}
 use Rattle.laws.proofs.Lists.{copied_one}
 use Rattle.wire.specs.Load.{fitting, load_of}
 use Rattle.wire.proofs.Fitting.{fits_sixteen, fits_length}
@@ -12,6 +12,7 @@ loop-i-init c = (search rules, c.fitting-nn.ensures, refl)
 module _ (c : goal.After-shared_slice_known-in-loop-i-1) where
   low : c.loop-i.i < 16
   low = omega (arith, fits_sixteen (length c.args.s.now))
+
   inside : c.loop-i.i < length c.args.s.now
   inside = omega (arith, fits_length (length c.args.s.now))
 

@@ -1,8 +1,6 @@
 -- `wire::part::Load::of` meets its contract: what is copied so far, and zeros behind it.
-use Rattle.std.proofs.Common.{◌≡◌, ◌+◌, ◌-◌, ◌<◌, ◌≤◌, ◌++◌, length, take, replicate, refl, arith, rules}
-use Rattle.laws.proofs.Lists.{copied_one}
-use Rattle.wire.specs.Load.{fitting, load_of}
-use Rattle.wire.proofs.Fitting.{fits_sixteen, fits_length}
+use Rattle.std.proofs.Common.{◌≡◌, ◌-◌, ◌≤◌, ◌++◌, length, take, replicate}
+use Rattle.wire.specs.Load.{fitting}
 use Rattle.wire.proofs.part.Load.of.Given as goal
 
 abbrev pub invariant-loop-i : goal.invariant-loop-i

@@ -1,6 +1,5 @@
 -- `wire::reader::Cursor::onward` meets its contract.
 use Rattle.wire.specs.Reader.{onward}
-use Rattle.std.proofs.Common.{rules}
 use Rattle.wire.proofs.reader.Cursor.onward.Goals as goal
 
 pub returns : goal.returns

@@ -1,6 +1,5 @@
 -- `wire::reader::Cursor::read` meets its contract.
 use Rattle.wire.specs.Reader.{read_one}
-use Rattle.std.proofs.Common.{rules}
 use Rattle.wire.proofs.reader.Cursor.read.Goals as goal
 
 pub returns-in-Syn : goal.returns-in-Syn

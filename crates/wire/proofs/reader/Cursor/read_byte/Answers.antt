@@ -1,5 +1,5 @@
 -- `wire::reader::Cursor::read_byte` meets its contract.
-use Rattle.std.proofs.Common.{rules, le-ltb, lt-ltb}
+use Rattle.std.proofs.Common.{le-ltb, lt-ltb}
 use Rattle.wire.specs.Reader.{read_byte}
 use Rattle.wire.proofs.reader.Cursor.read_byte.Goals as goal
 

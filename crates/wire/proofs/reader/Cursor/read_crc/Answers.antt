@@ -1,6 +1,5 @@
 -- `wire::reader::Cursor::read_crc` meets its contract.
 use Rattle.wire.specs.Reader.{read_crc}
-use Rattle.std.proofs.Common.{rules}
 use Rattle.wire.proofs.reader.Cursor.read_crc.Goals as goal
 
 pub returns-in-Byte : goal.returns-in-Byte

@@ -1,6 +1,5 @@
 -- `wire::reader::Cursor::read_head` meets its contract.
 use Rattle.wire.specs.Reader.{read_head}
-use Rattle.std.proofs.Common.{rules}
 use Rattle.wire.proofs.reader.Cursor.read_head.Goals as goal
 
 pub returns-then-escape : goal.returns-then-escape

@@ -1,6 +1,5 @@
 -- `wire::reader::Cursor::read_nn` meets its contract.
 use Rattle.wire.specs.Reader.{read_nn}
-use Rattle.std.proofs.Common.{rules}
 use Rattle.wire.proofs.reader.Cursor.read_nn.Goals as goal
 
 pub returns-then-counts : goal.returns-then-counts

@@ -1,6 +1,5 @@
 -- `wire::reader::Cursor::read_place` meets its contract.
 use Rattle.wire.specs.Reader.{read_place}
-use Rattle.std.proofs.Common.{rules}
 use Rattle.wire.proofs.reader.Cursor.read_place.Goals as goal
 
 pub returns-in-Qq : goal.returns-in-Qq

@@ -1,6 +1,5 @@
 -- `wire::reader::Cursor::read_qq` meets its contract.
 use Rattle.wire.specs.Reader.{read_qq}
-use Rattle.std.proofs.Common.{rules}
 use Rattle.wire.proofs.reader.Cursor.read_qq.Goals as goal
 
 pub returns-then-is_master : goal.returns-then-is_master

@@ -1,6 +1,5 @@
 -- `wire::reader::Cursor::start` meets its contract.
 use Rattle.wire.specs.Reader.{master_start, answer_start}
-use Rattle.std.proofs.Common.{rules}
 use Rattle.wire.proofs.reader.Cursor.start.Goals as goal
 
 pub returns-in-MasterPart : goal.returns-in-MasterPart
