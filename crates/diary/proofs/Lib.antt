@@ -1,6 +1,7 @@
 pub mod AnyLength
 pub mod Filling
 pub mod FillsAreLines
+pub mod Following
 pub mod FollowsTheMoments
 pub mod LengthReads
 pub mod Lined

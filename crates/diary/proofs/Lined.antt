@@ -5,11 +5,10 @@ use Prim.Native.Nat.{ℕ, ◌≤◌, ◌<◌}
 use native.Mathlib.Omega.{arith}
 use lib.ListN.{length, get_or, drop}
 use Rattle.scenario.specs.Lines.{newline, hexes_text}
-use Rattle.scenario.specs.Pen.{byte_text}
-use Rattle.diary.specs.Lines.{record_line}
+use Rattle.diary.specs.Lines.{digits_text, record_line}
 
 -- the first byte, the others, a line feed
-pub some_line : (rec : List ℕ) → 0 < length rec → record_line rec ≡ byte_text (get_or rec 0 0) ++ hexes_text (drop 1 rec) ++ newline
+pub some_line : (rec : List ℕ) → 0 < length rec → record_line rec ≡ digits_text (get_or rec 0 0) ++ hexes_text (drop 1 rec) ++ newline
 unfolding record_line
 some_line [] h = absurd (omega arith)
 some_line (b ∷ bs) h = refl

@@ -8,14 +8,13 @@ use lib.Seq.{take-append_seam, drop-append_seam}
 use Rattle.laws.specs.AtMost.{at_most}
 use Rattle.laws.proofs.AtMost.{at_most_same}
 use Rattle.scenario.specs.Lines.{newline, hexes_text}
-use Rattle.scenario.specs.Pen.{byte_text}
 use Rattle.scenario.proofs.Fits.{hexes_length}
 use Rattle.bus.specs.Events.{Line}
 use Rattle.buslog.specs.Latest.{joined}
 use Rattle.buslog.specs.Record.{value_of, record_of}
 use Rattle.buslog.proofs.Formed.{length_record}
 use Rattle.buslog.proofs.OldestGoWhole.{lines_at_most}
-use Rattle.diary.specs.Lines.{record_line, size_of, lines_from, lines_text}
+use Rattle.diary.specs.Lines.{digits_text, record_line, size_of, lines_from, lines_text}
 use Rattle.diary.specs.Output.{lines_of}
 
 -- a record says its own size
@@ -56,7 +55,7 @@ lines_of_records ls = lines_from_lem (length (joined ls)) ls (lines_at_most ls)
 
 -- a record of at most 28 bytes has a line of at most 84
 pub line_length : (rec : List ℕ) → 0 < length rec → length (record_line rec) ≡ 3 * length rec
-unfolding record_line
+unfolding record_line digits_text
 line_length [] h = absurd (omega arith)
 line_length (b ∷ bs) h =
-    omega (arith, length-append (byte_text b ++ hexes_text bs) newline, length-append (byte_text b) (hexes_text bs), hexes_length bs)
+    omega (arith, length-append (digits_text b ++ hexes_text bs) newline, length-append (digits_text b) (hexes_text bs), hexes_length bs)

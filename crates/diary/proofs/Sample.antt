@@ -18,7 +18,6 @@ use Rattle.crc.specs.Crc as crcCrc
 use Rattle.laws.specs.First as lawsFirst
 use Rattle.walk.specs.Apply as walkApply
 use Rattle.walk.specs.Field as walkField
-use Rattle.walk.specs.Follow as walkFollow
 use Rattle.walk.specs.Form as walkForm
 use Rattle.scenario.specs.Lines as scenarioLines
 use Rattle.scenario.specs.Pen as scenarioPen
@@ -41,6 +40,7 @@ use Rattle.buslog.specs.Latest as logLatest
 use Rattle.buslog.specs.Log as logLog
 use Rattle.buslog.specs.Record as logRecord
 use Rattle.scenario.proofs.Sample.{sample_input}
+use Rattle.diary.specs.Follow as diaryFollow
 use Rattle.diary.specs.Lines as diaryLines
 use Rattle.diary.specs.Output as diaryOutput
 
@@ -61,12 +61,12 @@ sample_log =
 
 -- every definition on the way is unfolded, and the two sides are the same bytes
 pub sample_logged : diaryOutput.wirelog_output 4096 sample_input ≡ sample_log
-unfolding addressHalf.half_index addressHalf.class_of addressHalf.sub_of addressRole.role_of addressMaster.is_master addressMaster.slave_of addressMaster.rank_of addressMaster.master_at busAttach.no_such_address busAttach.occupied busAttach.newcomer busAttach.takes_seat busAttach.attaches busBus.powered_on busBus.attached_to busBus.turn_at busBus.with_turn busBus.refused_by busBus.done busEvents.tellings busEvents.events busFind.slave_address busFind.in_transfer busFind.is_master_at busFind.first_of busFind.there_is busQueue.unusable busQueue.no_target busQueue.no_command busQueue.holds busQueue.queues_from busQueue.queues busReply.writes busReply.replies_from busReply.replies busSlot.generator_says busSlot.spoken busSlot.slot_heard busSlot.slot_run busTime.elapsed busTime.time_of crcCrc.times_x crcCrc.times_xⁿ crcCrc.crc_step crcCrc.crc_from crcCrc.crc_of lawsFirst.first_from walkApply.bytes_from walkApply.applied walkField.byte_at walkField.pair_at walkField.value_of walkField.field_at walkForm.form_from walkForm.form_of wireForm.covered wireForm.form wireForm.count_of wireForm.telegram_form wireForm.answer_form wireForm.holding wireForm.appended wireLoad.fitting wireLoad.load_of wirePair.expand_one wirePair.expand wirePair.undo_first wirePair.undo_second wirePair.undo stationAddressed.answered stationAddressed.for_all stationAddressed.is_own stationAdmission.admits stationAdmission.bids stationAdmission.noted stationAdmission.owned stationAdmission.restarted stationAdmission.say_bid stationAdmission.withdrawn stationEvents.tells stationHear.cut stationHear.hear_quiet stationHear.hear_symbol stationHear.hear_syn stationHear.hears stationOutbox.accepted stationOutbox.dropped stationOutbox.held_in stationOutbox.none_held stationOutbox.oldest_of stationOutbox.waiting stationReplies.added stationReplies.answer_for stationReplies.count_in stationReplies.entry_at stationReplies.entry_of stationReplies.is_for stationReplies.no_entries stationReplies.with_entry stationReplies.written stationStation.acknowledgement stationStation.answering stationStation.due stationStation.fresh stationStation.ready stationStation.says stationTable.addressed stationTable.handed_out stationTable.hear_bid stationTable.hear_own stationTable.hear_reading stationTable.hear_reply stationTable.judged_taken stationTable.judges stationTable.left stationTable.read_on stationTable.reads stationTable.released stationTable.sent stationTable.sent_whole stationTable.taken stationTable.whole stationTurn.goes wireReader.answer_start wireReader.ended wireReader.master_start wireReader.more wireReader.onward wireReader.place_after wireReader.read_byte wireReader.read_crc wireReader.read_data wireReader.read_head wireReader.read_nn wireReader.read_one wireReader.read_place wireReader.read_qq wireSymbol.kind_of walkMoments.ran walkMoments.moments_from walkMoments.moments scenarioPen.hex_digit scenarioPen.hex_text scenarioLines.hexes_text logRecord.four_bytes logRecord.value_of logRecord.record_of logLatest.joined logLatest.longest_run logLatest.all_lines logLog.within_limits walkFollow.told_buses diaryLines.record_line diaryOutput.lines_of diaryOutput.wirelog_output
+unfolding addressHalf.half_index addressHalf.class_of addressHalf.sub_of addressRole.role_of addressMaster.is_master addressMaster.slave_of addressMaster.rank_of addressMaster.master_at busAttach.no_such_address busAttach.occupied busAttach.newcomer busAttach.takes_seat busAttach.attaches busBus.powered_on busBus.attached_to busBus.turn_at busBus.with_turn busBus.refused_by busBus.done busEvents.tellings busEvents.events busFind.slave_address busFind.in_transfer busFind.is_master_at busFind.first_of busFind.there_is busQueue.unusable busQueue.no_target busQueue.no_command busQueue.holds busQueue.queues_from busQueue.queues busReply.writes busReply.replies_from busReply.replies busSlot.generator_says busSlot.spoken busSlot.slot_heard busSlot.slot_run busTime.elapsed busTime.time_of crcCrc.times_x crcCrc.times_xⁿ crcCrc.crc_step crcCrc.crc_from crcCrc.crc_of lawsFirst.first_from walkApply.bytes_from walkApply.applied walkField.byte_at walkField.pair_at walkField.value_of walkField.field_at walkForm.form_from walkForm.form_of wireForm.covered wireForm.form wireForm.count_of wireForm.telegram_form wireForm.answer_form wireForm.holding wireForm.appended wireLoad.fitting wireLoad.load_of wirePair.expand_one wirePair.expand wirePair.undo_first wirePair.undo_second wirePair.undo stationAddressed.answered stationAddressed.for_all stationAddressed.is_own stationAdmission.admits stationAdmission.bids stationAdmission.noted stationAdmission.owned stationAdmission.restarted stationAdmission.say_bid stationAdmission.withdrawn stationEvents.tells stationHear.cut stationHear.hear_quiet stationHear.hear_symbol stationHear.hear_syn stationHear.hears stationOutbox.accepted stationOutbox.dropped stationOutbox.held_in stationOutbox.none_held stationOutbox.oldest_of stationOutbox.waiting stationReplies.added stationReplies.answer_for stationReplies.count_in stationReplies.entry_at stationReplies.entry_of stationReplies.is_for stationReplies.no_entries stationReplies.with_entry stationReplies.written stationStation.acknowledgement stationStation.answering stationStation.due stationStation.fresh stationStation.ready stationStation.says stationTable.addressed stationTable.handed_out stationTable.hear_bid stationTable.hear_own stationTable.hear_reading stationTable.hear_reply stationTable.judged_taken stationTable.judges stationTable.left stationTable.read_on stationTable.reads stationTable.released stationTable.sent stationTable.sent_whole stationTable.taken stationTable.whole stationTurn.goes wireReader.answer_start wireReader.ended wireReader.master_start wireReader.more wireReader.onward wireReader.place_after wireReader.read_byte wireReader.read_crc wireReader.read_data wireReader.read_head wireReader.read_nn wireReader.read_one wireReader.read_place wireReader.read_qq wireSymbol.kind_of walkMoments.ran walkMoments.moments_from walkMoments.moments scenarioPen.hex_digit scenarioPen.hex_text scenarioLines.hexes_text logRecord.four_bytes logRecord.value_of logRecord.record_of logLatest.joined logLatest.longest_run logLatest.all_lines logLog.within_limits diaryFollow.told_buses diaryLines.digits_text diaryLines.record_line diaryOutput.lines_of diaryOutput.wirelog_output
 sample_logged = refl
 
 -- its six records take 59 bytes
 pub sample_in_64 : diaryOutput.wirelog_output 64 sample_input ≡ sample_log
-unfolding addressHalf.half_index addressHalf.class_of addressHalf.sub_of addressRole.role_of addressMaster.is_master addressMaster.slave_of addressMaster.rank_of addressMaster.master_at busAttach.no_such_address busAttach.occupied busAttach.newcomer busAttach.takes_seat busAttach.attaches busBus.powered_on busBus.attached_to busBus.turn_at busBus.with_turn busBus.refused_by busBus.done busEvents.tellings busEvents.events busFind.slave_address busFind.in_transfer busFind.is_master_at busFind.first_of busFind.there_is busQueue.unusable busQueue.no_target busQueue.no_command busQueue.holds busQueue.queues_from busQueue.queues busReply.writes busReply.replies_from busReply.replies busSlot.generator_says busSlot.spoken busSlot.slot_heard busSlot.slot_run busTime.elapsed busTime.time_of crcCrc.times_x crcCrc.times_xⁿ crcCrc.crc_step crcCrc.crc_from crcCrc.crc_of lawsFirst.first_from walkApply.bytes_from walkApply.applied walkField.byte_at walkField.pair_at walkField.value_of walkField.field_at walkForm.form_from walkForm.form_of wireForm.covered wireForm.form wireForm.count_of wireForm.telegram_form wireForm.answer_form wireForm.holding wireForm.appended wireLoad.fitting wireLoad.load_of wirePair.expand_one wirePair.expand wirePair.undo_first wirePair.undo_second wirePair.undo stationAddressed.answered stationAddressed.for_all stationAddressed.is_own stationAdmission.admits stationAdmission.bids stationAdmission.noted stationAdmission.owned stationAdmission.restarted stationAdmission.say_bid stationAdmission.withdrawn stationEvents.tells stationHear.cut stationHear.hear_quiet stationHear.hear_symbol stationHear.hear_syn stationHear.hears stationOutbox.accepted stationOutbox.dropped stationOutbox.held_in stationOutbox.none_held stationOutbox.oldest_of stationOutbox.waiting stationReplies.added stationReplies.answer_for stationReplies.count_in stationReplies.entry_at stationReplies.entry_of stationReplies.is_for stationReplies.no_entries stationReplies.with_entry stationReplies.written stationStation.acknowledgement stationStation.answering stationStation.due stationStation.fresh stationStation.ready stationStation.says stationTable.addressed stationTable.handed_out stationTable.hear_bid stationTable.hear_own stationTable.hear_reading stationTable.hear_reply stationTable.judged_taken stationTable.judges stationTable.left stationTable.read_on stationTable.reads stationTable.released stationTable.sent stationTable.sent_whole stationTable.taken stationTable.whole stationTurn.goes wireReader.answer_start wireReader.ended wireReader.master_start wireReader.more wireReader.onward wireReader.place_after wireReader.read_byte wireReader.read_crc wireReader.read_data wireReader.read_head wireReader.read_nn wireReader.read_one wireReader.read_place wireReader.read_qq wireSymbol.kind_of walkMoments.ran walkMoments.moments_from walkMoments.moments scenarioPen.hex_digit scenarioPen.hex_text scenarioLines.hexes_text logRecord.four_bytes logRecord.value_of logRecord.record_of logLatest.joined logLatest.longest_run logLatest.all_lines logLog.within_limits walkFollow.told_buses diaryLines.record_line diaryOutput.lines_of diaryOutput.wirelog_output
+unfolding addressHalf.half_index addressHalf.class_of addressHalf.sub_of addressRole.role_of addressMaster.is_master addressMaster.slave_of addressMaster.rank_of addressMaster.master_at busAttach.no_such_address busAttach.occupied busAttach.newcomer busAttach.takes_seat busAttach.attaches busBus.powered_on busBus.attached_to busBus.turn_at busBus.with_turn busBus.refused_by busBus.done busEvents.tellings busEvents.events busFind.slave_address busFind.in_transfer busFind.is_master_at busFind.first_of busFind.there_is busQueue.unusable busQueue.no_target busQueue.no_command busQueue.holds busQueue.queues_from busQueue.queues busReply.writes busReply.replies_from busReply.replies busSlot.generator_says busSlot.spoken busSlot.slot_heard busSlot.slot_run busTime.elapsed busTime.time_of crcCrc.times_x crcCrc.times_xⁿ crcCrc.crc_step crcCrc.crc_from crcCrc.crc_of lawsFirst.first_from walkApply.bytes_from walkApply.applied walkField.byte_at walkField.pair_at walkField.value_of walkField.field_at walkForm.form_from walkForm.form_of wireForm.covered wireForm.form wireForm.count_of wireForm.telegram_form wireForm.answer_form wireForm.holding wireForm.appended wireLoad.fitting wireLoad.load_of wirePair.expand_one wirePair.expand wirePair.undo_first wirePair.undo_second wirePair.undo stationAddressed.answered stationAddressed.for_all stationAddressed.is_own stationAdmission.admits stationAdmission.bids stationAdmission.noted stationAdmission.owned stationAdmission.restarted stationAdmission.say_bid stationAdmission.withdrawn stationEvents.tells stationHear.cut stationHear.hear_quiet stationHear.hear_symbol stationHear.hear_syn stationHear.hears stationOutbox.accepted stationOutbox.dropped stationOutbox.held_in stationOutbox.none_held stationOutbox.oldest_of stationOutbox.waiting stationReplies.added stationReplies.answer_for stationReplies.count_in stationReplies.entry_at stationReplies.entry_of stationReplies.is_for stationReplies.no_entries stationReplies.with_entry stationReplies.written stationStation.acknowledgement stationStation.answering stationStation.due stationStation.fresh stationStation.ready stationStation.says stationTable.addressed stationTable.handed_out stationTable.hear_bid stationTable.hear_own stationTable.hear_reading stationTable.hear_reply stationTable.judged_taken stationTable.judges stationTable.left stationTable.read_on stationTable.reads stationTable.released stationTable.sent stationTable.sent_whole stationTable.taken stationTable.whole stationTurn.goes wireReader.answer_start wireReader.ended wireReader.master_start wireReader.more wireReader.onward wireReader.place_after wireReader.read_byte wireReader.read_crc wireReader.read_data wireReader.read_head wireReader.read_nn wireReader.read_one wireReader.read_place wireReader.read_qq wireSymbol.kind_of walkMoments.ran walkMoments.moments_from walkMoments.moments scenarioPen.hex_digit scenarioPen.hex_text scenarioLines.hexes_text logRecord.four_bytes logRecord.value_of logRecord.record_of logLatest.joined logLatest.longest_run logLatest.all_lines logLog.within_limits diaryFollow.told_buses diaryLines.digits_text diaryLines.record_line diaryOutput.lines_of diaryOutput.wirelog_output
 sample_in_64 = refl
 
 -- refused 16

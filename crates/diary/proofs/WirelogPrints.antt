@@ -10,7 +10,6 @@ use lib.Seq.{take-append_seam}
 use Rattle.laws.proofs.FirstIs.{Every, every_behind}
 use Rattle.bus.specs.declared.bus.Bus.{Bus}
 use Rattle.walk.specs.Field.{Bytes}
-use Rattle.walk.specs.Follow.{told_buses}
 use Rattle.walk.specs.Form.{form_of}
 use Rattle.walk.specs.Moments.{moments}
 use Rattle.walk.specs.declared.form.Form.{Form}
@@ -34,7 +33,7 @@ use Rattle.scenario.specs.Lines.{refused_text, newline, form_text}
 use Rattle.scenario.specs.Pen.{room, pen, penned, decimal_text}
 use Rattle.scenario.proofs.Fills.{written_bytes}
 use Rattle.scenario.proofs.Fits.{decimal_most, form_most}
-use Rattle.diary.specs.Follow.{followed}
+use Rattle.diary.specs.Follow.{followed, told_buses}
 use Rattle.diary.specs.Lines.{lines_text}
 use Rattle.diary.specs.Output.{refused16, opening_text, held_lines, logged_of, wirelog_output}
 use Rattle.diary.specs.Writes.{is_played, Writes, refused, logged}

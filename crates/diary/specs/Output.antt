@@ -1,6 +1,5 @@
 -- The whole output of `wirelog` as a function of the log's length and the scenario, by lists alone (02, E1). Assumes nothing.
 use Rattle.std.specs.Prelude.{cond, List, [], ◌∷◌, ◌++◌, ℕ}
-use Rattle.walk.specs.Follow.{told_buses}
 use Rattle.walk.specs.Form.{form_of}
 use Rattle.walk.specs.Moments.{moments}
 use Rattle.walk.specs.declared.form.Form.{Form}
@@ -13,6 +12,7 @@ use Rattle.buslog.specs.declared.log.SetUp.{SetUp}
 use Rattle.buslog.specs.declared.log.SetUp.TheVariants.{Ready, BadLength}
 use Rattle.scenario.specs.Lines.{refused_text, newline, form_text}
 use Rattle.scenario.specs.Pen.{decimal_text}
+use Rattle.diary.specs.Follow.{told_buses}
 use Rattle.diary.specs.Lines.{record_line}
 
 -- `refused 16`

@@ -1,8 +1,7 @@
 // A scenario followed with a log: what each of its slots told is noted.
 ghost use Rattle.std.specs.Prelude.{◌≡◌};
-ghost use Rattle.walk.specs.Follow.{heard_at};
 ghost use Rattle.buslog.specs.Ring.{ring};
-ghost use Rattle.diary.specs.Follow.{noted_in, followed};
+ghost use Rattle.diary.specs.Follow.{noted_at, followed};
 
 use bus::bus::Bus;
 use buslog::log::Log;
@@ -10,7 +9,7 @@ use walk::walk::{Moment, Place};
 
 // A slot that told somebody something is noted; no other moment is.
 fn noted(l: Log, bytes: &mut [u8], m: Moment, b: Bus) -> Log
-    ensures { ring bytes.new result ≡ heard_at noted_in m b (ring bytes.old l) }
+    ensures { ring bytes.new result ≡ noted_at m b (ring bytes.old l) }
 {
     match m {
         Moment::Called(_) => l,

@@ -2,7 +2,7 @@
 ghost use Rattle.std.specs.Prelude.{◌≡◌, ◌+◌, ◌*◌, drop};
 ghost use Rattle.scenario.specs.Lines.{hexes_text};
 ghost use Rattle.scenario.specs.Pen.{pen, penned};
-ghost use Rattle.diary.specs.Lines.{record_line, size_of};
+ghost use Rattle.diary.specs.Lines.{digits_text, record_line, size_of};
 ghost use Rattle.diary.specs.Fill.{filling, filled};
 
 use scenario::pen;
@@ -42,6 +42,14 @@ fn size_at(held: &[u8], at: usize) -> usize
     }
 }
 
+// A byte in two digits.
+fn digits(out: &mut [u8; ROOM], at: usize, b: u8) -> usize
+    ensures { pen out.new result ≡ penned (pen out.old at) (digits_text b) }
+{
+    let to = pen::put(out, at, pen::hex_digit(b / 16));
+    pen::put(out, to, pen::hex_digit(b))
+}
+
 // The bytes behind the first, each with a blank before it.
 fn others(out: &mut [u8; ROOM], at: usize, rec: &[u8]) -> usize
     ensures { pen out.new result ≡ penned (pen out.old at) (hexes_text (drop 1 rec.now)) }
@@ -60,7 +68,7 @@ fn line(out: &mut [u8; ROOM], at: usize, rec: &[u8]) -> usize
     ensures { pen out.new result ≡ penned (pen out.old at) (record_line rec.now) }
 {
     if 0 < rec.len() {
-        let first = pen::byte(out, at, rec[0]);
+        let first = digits(out, at, rec[0]);
         let end = others(out, first, rec);
         pen::word(out, end, b"\n")
     } else {

@@ -7,7 +7,6 @@ use Rattle.laws.proofs.FirstIs as every
 use Rattle.laws.proofs.FirstIs.{Every}
 use Rattle.bus.specs.declared.bus.Bus.{Bus}
 use Rattle.walk.specs.Field.{Bytes}
-use Rattle.walk.specs.Follow.{told_at, told_buses}
 use Rattle.walk.specs.Moments.{Now}
 use Rattle.walk.specs.declared.walk.Moment.{Moment}
 use Rattle.walk.specs.declared.walk.Moment.TheVariants.{Called, Told, Passed, Ended}
@@ -15,6 +14,7 @@ use Rattle.buslog.specs.Roomy.{AllRoomy, none, next}
 use Rattle.scenario.specs.Pen.{room}
 use Rattle.promises.specs.Calls.{Reachable}
 use Rattle.printed.proofs.Reached.{Reached, moments_reached}
+use Rattle.diary.specs.Follow.{told_at, told_buses}
 use Rattle.diary.specs.Output.{wirelog_output}
 use Rattle.diary.specs.Writes.{Writes}
 use Rattle.diary.proofs.WirelogPrints.{wirelog_prints_whole}

@@ -2,7 +2,7 @@
 use mathlib.Core.Path.{◌≡◌, refl, ap, ◌∙◌}
 use mathlib.Core.Bool.{Bool, true, false, cond, false≢true}
 use mathlib.Core.List.{List, [], ◌∷◌, ◌++◌, map, append-nil}
-use Prim.Native.Nat.{ℕ, ◌+◌, ◌/◌, ◌%◌, ◌≤◌, ◌<◌}
+use Prim.Native.Nat.{ℕ, zero, suc, ◌+◌, ◌/◌, ◌%◌, ◌≤◌, ◌<◌}
 use native.Mathlib.Omega.{arith}
 use borrow.Author.Tests.{ltb-true, eq-eqb, ne_eqb}
 use lib.Dec.{eqb, ltb}
@@ -11,8 +11,8 @@ use Rattle.laws.proofs.FirstIs.{Every, none, next, every_map}
 use Rattle.promises.specs.Calls.{AllBytes}
 use Rattle.promises.proofs.Shared.Arrays.{every_append}
 use Rattle.scenario.specs.Lines.{hexes_text}
-use Rattle.scenario.specs.Pen.{hex_digit, hex_text, decimal_text}
-use Rattle.scenario.proofs.ReadsBack.{Digit, decimal_all, hex_reads_back}
+use Rattle.scenario.specs.Pen.{hex_digit, hex_text, last_digit, digits_of, decimal_text}
+use Rattle.scenario.proofs.ReadsBack.{hex_reads_back}
 use Rattle.printed.specs.ReadLine.{onto, cut, alike, byte, read_line, lines_from, lines_in, read_text}
 
 -- no mark among them, nor anything that comes before it
@@ -48,6 +48,26 @@ above mark (x ∷ xs) e = by (ltb mark x) refl (above mark xs) e
     by false i on e = absurd (false≢true e)
 
 -- ---- digits
+
+pub record Digit (c : ℕ) : Type 0 where
+  pub least : 48 ≤ c
+  pub most : c < 58
+
+digits_all : (k n : ℕ) → Every Digit (digits_of k n)
+unfolding digits_of last_digit
+digits_all zero n = none
+digits_all (suc k) n = by (ltb n 10) (digits_all k (n / 10))
+  where
+    last : Every Digit ((48 + n % 10) ∷ [])
+    last = let digit : Digit (48 + n % 10) = record { least = omega arith; most = omega arith } in next digit none
+
+    by : (t : Bool) → Every Digit (digits_of k (n / 10)) → Every Digit (cond t ((48 + n % 10) ∷ []) (digits_of k (n / 10) ++ ((48 + n % 10) ∷ [])))
+    by true w = last
+    by false w = every_append w last
+
+decimal_all : (n : ℕ) → Every Digit (decimal_text n)
+unfolding decimal_text
+decimal_all n = digits_all 10 n
 
 pub decimal_above : (n mark : ℕ) → mark ≤ 32 → Above mark (decimal_text n)
 decimal_above n mark h = every_map (λ c d. omega (arith, d.least)) (decimal_all n)

@@ -8,7 +8,7 @@ use native.Mathlib.Omega.{arith}
 use borrow.Author.Tests.{lt-ltb, le-ltb}
 use lib.Dec.{ltb}
 pub use Rattle.laws.proofs.Lists.{left_of, left_of_first}
-use Rattle.scenario.specs.Pen.{Pen, penned_one, penned, last_digit, digits_of}
+use Rattle.scenario.specs.Pen.{Pen, penned_one, penned, hex_digit, hex_text, last_digit, digits_of}
 
 pub penned_append : (p : Pen) (xs ys : List ℕ) → penned (penned p xs) ys ≡ penned p (xs ++ ys)
 unfolding penned
@@ -23,6 +23,14 @@ nothing p = refl
 -- a text, and behind it another
 pub both : (p : Pen) (xs ys : List ℕ) {q r : Pen} → q ≡ penned p xs → r ≡ penned q ys → r ≡ penned p (xs ++ ys)
 both p xs ys {q} {r} e f = f ∙ ap (λ (v : Pen). penned v ys) e ∙ penned_append p xs ys
+
+-- a byte in two hex digits
+pub hex_written : (p : Pen) (x a b : ℕ) {q r s : Pen} → a ≡ hex_digit (x / 16) → b ≡ hex_digit x
+    → q ≡ penned p (32 ∷ []) → r ≡ penned q (a ∷ []) → s ≡ penned r (b ∷ []) → s ≡ penned p (hex_text x)
+unfolding hex_text
+hex_written p x a b {q} {r} {s} h l e f g =
+    both p (32 ∷ a ∷ []) (b ∷ []) (both p (32 ∷ []) (a ∷ []) e f) g ∙ ap (λ (v : ℕ). penned p (32 ∷ v ∷ b ∷ [])) h
+    ∙ ap (λ (v : ℕ). penned p (32 ∷ hex_digit (x / 16) ∷ v ∷ [])) l
 
 -- ---- in a loop
 

@@ -30,13 +30,13 @@ penned p (b ∷ bs) = penned (penned_one p b) bs
 unfoldable pub hex_digit : ℕ → ℕ
 hex_digit d = cond (ltb (d % 16) 10) (48 + d % 16) (55 + d % 16)
 
--- a byte in two hex digits
+-- a space and a byte in two hex digits
+unfoldable pub hex_text : ℕ → List ℕ
+hex_text b = 32 ∷ hex_digit (b / 16) ∷ hex_digit b ∷ []
+
+-- without the space
 abbrev pub byte_text : ℕ → List ℕ
 byte_text b = hex_digit (b / 16) ∷ hex_digit b ∷ []
-
--- and a space before it
-unfoldable pub hex_text : ℕ → List ℕ
-hex_text b = 32 ∷ byte_text b
 
 -- the last decimal digit of a number
 unfoldable pub last_digit : ℕ → ℕ

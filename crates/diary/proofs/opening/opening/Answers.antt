@@ -2,6 +2,10 @@
 use Rattle.scenario.specs.Pen.{last_digit, digits_of, decimal_text}
 use Rattle.diary.proofs.opening.opening.Goals as goal
 
+-- LOST
+-- slice-aggregate-word : tie.Need-slice-aggregate-word
+-- slice-aggregate-word c = search rules
+
 pub returns-in-Ready : goal.returns-in-Ready
 returns-in-Ready c = simp (c.form_line.ensures, c.in-Ready.is)
 
