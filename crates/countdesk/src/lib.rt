@@ -22,7 +22,7 @@ fn answer<W: Write>(q: Question, s: &[u8], to: &mut W) -> Result<(), Failure>
     let b = tally::follow::follow(s);
     let mut out = [0u8; ROOM];
     let used = tally::lines::text(&mut out, q, b);
-    desk::write(to, &out, used)
+    desk::wrote(to, &out, used)
 }
 
 fn run<W: Write>(q: Question, s: &[u8], to: &mut W) -> Result<(), Failure>

@@ -21,7 +21,7 @@ fn show<W: Write>(s: &[u8], to: &mut W) -> Result<(), Failure>
     let mut p = Showing::start();
     while !p.done {
         let f = p.fill(s, &mut out);
-        desk::write(to, &out, f.used)?;
+        desk::wrote(to, &out, f.used)?;
         p = f.showing;
     }
     Ok(())

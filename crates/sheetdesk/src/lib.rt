@@ -20,7 +20,7 @@ fn print<W: Write>(s: &[u8], to: &mut W) -> Result<(), Failure>
     let mut at: usize = 0;
     while at < s.len() {
         let f = sheet::fill::fill(s, at, &mut out);
-        desk::write(to, &out, f.used)?;
+        desk::wrote(to, &out, f.used)?;
         at = f.next;
     }
     Ok(())

@@ -35,5 +35,5 @@ returns g c = λ good asked.
     let s = c.args.s.now in
     let text = c.text-used in
     let bytes : Bytes s = λ i. search rules in
-    subst (λ t. OnOk c.write.result (Appends (g.W.Write.contents c.args.to.now) (g.W.Write.contents c.write.new.to) t))
-    (text_is c.args.q s _ text.new.out text.result c.follow-b.result bytes refl asked good c.follow-b.ensures text.ensures) c.write.ensures
+    subst (λ t. OnOk c.wrote.result (Appends (g.W.Write.contents c.args.to.now) (g.W.Write.contents c.wrote.new.to) t))
+    (text_is c.args.q s _ text.new.out text.result c.follow-b.result bytes refl asked good c.follow-b.ensures text.ensures) c.wrote.ensures
