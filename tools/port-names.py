@@ -47,7 +47,7 @@ def write(path, text):
 
 
 def is_of_a_function(path):
-    return os.path.basename(path) in FUNCTION
+    return os.path.basename(path) in FUNCTION and "/proofs/" in path
 
 
 def declarations(text):

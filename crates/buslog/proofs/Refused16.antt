@@ -1,4 +1,4 @@
--- A set_up is refused, with number 16, exactly where the buffer has fewer than 64 bytes or more than 65,536. Assumes nothing.
+-- A set-up is refused, with number 16, exactly where the buffer has fewer than 64 bytes or more than 65,536. Assumes nothing.
 use mathlib.Core.Path.{◌≡◌, refl, sym, ap, ◌∙◌}
 use mathlib.Core.Bool.{Bool, true, false}
 use mathlib.Core.Logic.{◌⊎◌, inl, inr, ⊎_elim, ◌↔◌}

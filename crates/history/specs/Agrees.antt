@@ -97,7 +97,7 @@ Law = Bus → ℕ → Known → Call → Bool
 abbrev pub who_in : Known → ℕ → Who
 who_in k i = get_or k.attached i nobody
 
--- says-as-observed
+-- says_as_observed
 abbrev pub says_law : Law
 says_law b i k c =
     same_sound (said_by (turn_at b i)) (says (who_in k i).address (who_in k i).master k.history k.held k.answers)
@@ -105,7 +105,7 @@ says_law b i k c =
 abbrev pub observed : ℕ → Known → Sound → Report
 observed i k h = tells (who_in k i).address (who_in k i).master k.history k.held k.answers h
 
--- tells-as-observed, with what all hear if the call is a slot
+-- tells_as_observed, with what all hear if the call is a slot
 abbrev pub tells_law : Law
 tells_law b i k c = every (λ h. same_report (report_of (turn_at (slot_heard b h) i).told) (observed i k h)) (sounds_call b [] c)
 
@@ -120,21 +120,21 @@ hands_as answered u h t = same_bytes (answer_form t.load) (part_in u h) && eqb t
 hands_as (failed n x) u h t = true
 hands_as (failed_free n x) u h t = true
 
--- handed-out-as-heard, likewise
+-- handed_out_as_heard, likewise
 abbrev pub hands_law : Law
 hands_law b i k c =
     every (λ h. hands_as (observed i k h) (share_of (who_in k i).address (who_in k i).master k.history) h (turn_at (slot_heard b h) i).station.part) (sounds_call b [] c)
 
--- lines-as-observed, likewise
+-- lines_as_observed, likewise
 abbrev pub lines_law : Law
 lines_law b i k c =
     every (λ h. same_lines (lined (turn_at (slot_heard b h) i)) (lines (who_in k i).address (observed i k h) (turn_at (slot_heard b h) i).station.part)) (sounds_call b [] c)
 
--- held-by-calls, after the call
+-- held_by_calls, after the call
 abbrev pub held_law : Law
 held_law b i k c = same_telegrams (waiting (station_at (after_call b c) i).outbox) (known_call i b k c).held
 
--- answers-by-calls, for two commands, after the call
+-- answers_by_calls, for two commands, after the call
 abbrev pub answers_as : Bus → ℕ → Known → Call → ℕ → ℕ → Bool
 answers_as b i k c pb sb = same_bytes (bytes_of (answer_for (station_at (after_call b c) i).replies pb sb)) (bytes_of ((known_call i b k c).answers pb sb))
 
@@ -159,7 +159,7 @@ holds_in law cs = every (λ i. holds_from law i powered_on unknown cs) (seats_of
 
 -- ---- and the laws of no one station
 
--- word-is-the-and
+-- word_is_the_and
 abbrev pub word_as : List Sound → Sound → Bool
 word_as hs Quiet = nobody_sends hs
 word_as hs (Symbol s) =
@@ -168,7 +168,7 @@ word_as hs (Symbol s) =
 abbrev pub word_law : Bus → List Sound → Bool
 word_law b hs = word_as (generator_says b.quiet ∷ map said_by (attached_turns b)) (spoken b)
 
--- generator-as-observed, with what all heard
+-- generator_as_observed, with what all heard
 abbrev pub generator_law : Bus → List Sound → Bool
 generator_law b hs = same_sound (generator_says b.quiet) (generates hs)
 

@@ -1,4 +1,4 @@
--- The lemmas of `least-rank-owns-by-the-twelfth`: the AND of the addresses, and the slots after a SYN.
+-- The lemmas of `least_rank_owns_by_the_twelfth`: the AND of the addresses, and the slots after a SYN.
 pub mod Anded
 pub mod Between
 pub mod Round

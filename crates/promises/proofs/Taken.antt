@@ -1,4 +1,4 @@
--- The lemmas of `taken-is-handed-out`: what the sender has sent, what the others have read, and that they are in step.
+-- The lemmas of `taken_is_handed_out`: what the sender has sent, what the others have read, and that they are in step.
 pub mod AllBeside
 pub mod Beside
 pub mod OthersRead

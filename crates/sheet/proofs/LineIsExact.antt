@@ -13,7 +13,7 @@ use lib.IntN.{ℤ, pos, negsuc}
 use lib.Ieee.{Float, nan, inf, fin, up, down}
 use lib.Ieee.Exact.{HasValue}
 use lib.ListN.{length, get_or, length-append}
-use Rattle.value.specs.Answers.{blockNumber, blockPercents}
+use Rattle.value.specs.Answers.{block_number, block_percents}
 use Rattle.value.specs.Block.{verdict_of, block_by, block_of}
 use Rattle.value.specs.Claims.{Bytes, signed, coded, places, Exactly, GivesFloat, EachRead}
 use Rattle.value.specs.Read.{read_as}
@@ -203,10 +203,10 @@ pub record SharesLine (line bs : List ℕ) : Type 0 where
   pub line_is : line ≡ shares_word ++ text ++ newline
   pub says : ShareTexts bs text
 
-pub shares_line : (bs : List ℕ) → Bytes bs → blockNumber (block_of bs) ≡ 0 → SharesLine (item_line (block bs)) bs
-shares_line bs B e = record { text = shares_text (blockPercents (block_of bs)); line_is = go (verdict_of bs) e; says = share_texts B (shares_as_read bs e) }
+pub shares_line : (bs : List ℕ) → Bytes bs → block_number (block_of bs) ≡ 0 → SharesLine (item_line (block bs)) bs
+shares_line bs B e = record { text = shares_text (block_percents (block_of bs)); line_is = go (verdict_of bs) e; says = share_texts B (shares_as_read bs e) }
   where
-    go : (v : Verdict) → blockNumber (block_by v bs) ≡ 0 → block_line (block_by v bs) ≡ shares_word ++ shares_text (blockPercents (block_by v bs)) ++ newline
+    go : (v : Verdict) → block_number (block_by v bs) ≡ 0 → block_line (block_by v bs) ≡ shares_word ++ shares_text (block_percents (block_by v bs)) ++ newline
     go Accepted e = refl
     go NoBlock e = absurd (omega arith)
     go ShareMissing e = absurd (omega arith)

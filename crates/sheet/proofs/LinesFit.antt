@@ -9,7 +9,7 @@ use borrow.Author.Tests.{eqb-true, eqb-false}
 use lib.Dec.{eqb}
 use lib.Ieee.{Float}
 use lib.ListN.{length, length-append}
-use Rattle.value.specs.Answers.{readingNumber, verdictNumber, codeNumber, codeBytes, blockNumber, blockPercents}
+use Rattle.value.specs.Answers.{reading_number, verdict_number, code_number, code_bytes, block_number, block_percents}
 use Rattle.value.specs.Block.{block_of}
 use Rattle.value.specs.Claims.{EachRead, no_more, and_so}
 use Rattle.value.specs.Read.{read_as}
@@ -97,7 +97,7 @@ value_most Missing = omega arith
 
 reading_most : (r : Reading) → length (reading_line r) ≤ line_room
 reading_most (Of v) = omega (arith, length-append (value_text v) newline, value_most v)
-reading_most NoValue = refused_most (readingNumber NoValue)
+reading_most NoValue = refused_most (reading_number NoValue)
 
 shares_most : (xs : List Float) → length (shares_text xs) ≤ 21 * length xs
 unfolding shares_text
@@ -109,42 +109,42 @@ as_many no_more = refl
 as_many (and_so e r) = omega (arith, as_many r)
 
 -- a block gives no more than eight shares
-eight_shares : (bs : List ℕ) → length (blockPercents (block_of bs)) ≤ 8
-eight_shares bs = go (eqb (blockNumber (block_of bs)) 0) refl
+eight_shares : (bs : List ℕ) → length (block_percents (block_of bs)) ≤ 8
+eight_shares bs = go (eqb (block_number (block_of bs)) 0) refl
   where
-    go : (t : Bool) → eqb (blockNumber (block_of bs)) 0 ≡ t → length (blockPercents (block_of bs)) ≤ 8
+    go : (t : Bool) → eqb (block_number (block_of bs)) 0 ≡ t → length (block_percents (block_of bs)) ≤ 8
     go true e =
-        let a = eqb-true (blockNumber (block_of bs)) 0 e in
+        let a = eqb-true (block_number (block_of bs)) 0 e in
         let n = as_many (shares_as_read bs a) in
         few (length bs) n (λ l. ((accepted_exactly_when bs).0 a).0 (inr (inl l)))
       where
-        few : (m : ℕ) → length (blockPercents (block_of bs)) ≡ m → (8 < m → ⊥) → length (blockPercents (block_of bs)) ≤ 8
+        few : (m : ℕ) → length (block_percents (block_of bs)) ≡ m → (8 < m → ⊥) → length (block_percents (block_of bs)) ≤ 8
         few m n f = omega arith
-    go false e = rw (refused_gives_none bs (eqb-false (blockNumber (block_of bs)) 0 e)) (omega arith)
+    go false e = rw (refused_gives_none bs (eqb-false (block_number (block_of bs)) 0 e)) (omega arith)
 
 verdict_most : (v : Verdict) (xs : List Float) → length xs ≤ 8 → length (verdict_line v xs) ≤ line_room
 verdict_most Accepted xs h =
     omega (arith, length-append (shares_word ++ shares_text xs) newline, length-append shares_word (shares_text xs), shares_most xs)
-verdict_most NoBlock xs h = refused_most (verdictNumber NoBlock)
-verdict_most ShareMissing xs h = refused_most (verdictNumber ShareMissing)
-verdict_most NotAHundred xs h = refused_most (verdictNumber NotAHundred)
+verdict_most NoBlock xs h = refused_most (verdict_number NoBlock)
+verdict_most ShareMissing xs h = refused_most (verdict_number ShareMissing)
+verdict_most NotAHundred xs h = refused_most (verdict_number NotAHundred)
 
 code_most : (r : Code) → length (code_line r) ≤ line_room
 code_most (One b) =
-    let h = hexes_text (codeBytes (One b)) in
-    omega (arith, length-append (code_word ++ h) newline, length-append code_word h, hexes_length (codeBytes (One b)))
+    let h = hexes_text (code_bytes (One b)) in
+    omega (arith, length-append (code_word ++ h) newline, length-append code_word h, hexes_length (code_bytes (One b)))
 code_most (Two low high) =
-    let h = hexes_text (codeBytes (Two low high)) in
-    omega (arith, length-append (code_word ++ h) newline, length-append code_word h, hexes_length (codeBytes (Two low high)))
-code_most NoCode = refused_most (codeNumber NoCode)
+    let h = hexes_text (code_bytes (Two low high)) in
+    omega (arith, length-append (code_word ++ h) newline, length-append code_word h, hexes_length (code_bytes (Two low high)))
+code_most NoCode = refused_most (code_number NoCode)
 
 written_most : (t : DataType) (g : Given) → length (written_line t g) ≤ line_room
 written_most t (Known v) = code_most (write_as t v)
-written_most t NoKind = refused_most (codeNumber NoCode)
+written_most t NoKind = refused_most (code_number NoCode)
 
 -- whatever the field and its value
 pub entry_most : (e : Entry) (v : List ℕ) → length (entry_line e v) ≤ line_room
 entry_most (Read t) v = reading_most (read_as t v)
-entry_most Shares v = verdict_most (block_of v).verdict (blockPercents (block_of v)) (eight_shares v)
+entry_most Shares v = verdict_most (block_of v).verdict (block_percents (block_of v)) (eight_shares v)
 entry_most (Write t) v = written_most t (given_in v)
 entry_most Bad v = omega arith

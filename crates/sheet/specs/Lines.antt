@@ -1,7 +1,7 @@
 -- The line of a field (02, E2): what was read, the shares of a block, the code that was written, or what refused it.
 -- Assumes nothing.
 use Rattle.std.specs.Prelude.{List, [], ◌∷◌, ◌++◌, ℕ, Float}
-use Rattle.value.specs.Answers.{readingNumber, codeNumber, codeBytes, verdictNumber, blockPercents}
+use Rattle.value.specs.Answers.{reading_number, code_number, code_bytes, verdict_number, block_percents}
 use Rattle.value.specs.Block.{block_of}
 use Rattle.value.specs.Read.{read_as}
 use Rattle.value.specs.Write.{write_as}
@@ -58,7 +58,7 @@ value_text Missing = missing_word
 
 abbrev pub reading_line : Reading → List ℕ
 reading_line (Of v) = value_text v ++ newline
-reading_line NoValue = refused_line (readingNumber NoValue)
+reading_line NoValue = refused_line (reading_number NoValue)
 
 -- in percent, each with a blank before it
 unfoldable pub shares_text : List Float → List ℕ
@@ -68,23 +68,23 @@ shares_text (x ∷ xs) = 32 ∷ float_text x ++ shares_text xs
 -- `shares 50 50`
 abbrev pub verdict_line : Verdict → List Float → List ℕ
 verdict_line Accepted xs = shares_word ++ shares_text xs ++ newline
-verdict_line NoBlock xs = refused_line (verdictNumber NoBlock)
-verdict_line ShareMissing xs = refused_line (verdictNumber ShareMissing)
-verdict_line NotAHundred xs = refused_line (verdictNumber NotAHundred)
+verdict_line NoBlock xs = refused_line (verdict_number NoBlock)
+verdict_line ShareMissing xs = refused_line (verdict_number ShareMissing)
+verdict_line NotAHundred xs = refused_line (verdict_number NotAHundred)
 
 abbrev pub block_line : Block → List ℕ
-block_line b = verdict_line b.verdict (blockPercents b)
+block_line b = verdict_line b.verdict (block_percents b)
 
 -- `code 47`, `code 80 FF`
 abbrev pub code_line : Code → List ℕ
-code_line (One b) = code_word ++ hexes_text (codeBytes (One b)) ++ newline
-code_line (Two low high) = code_word ++ hexes_text (codeBytes (Two low high)) ++ newline
-code_line NoCode = refused_line (codeNumber NoCode)
+code_line (One b) = code_word ++ hexes_text (code_bytes (One b)) ++ newline
+code_line (Two low high) = code_word ++ hexes_text (code_bytes (Two low high)) ++ newline
+code_line NoCode = refused_line (code_number NoCode)
 
 -- a kind above 3 is refused as a value without a code is
 abbrev pub written_line : DataType → Given → List ℕ
 written_line t (Known v) = code_line (write_as t v)
-written_line t NoKind = refused_line (codeNumber NoCode)
+written_line t NoKind = refused_line (code_number NoCode)
 
 -- of a field and its value; a field that is none has no line, and its sheet is refused
 abbrev pub entry_line : Entry → List ℕ → List ℕ

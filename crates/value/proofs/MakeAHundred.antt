@@ -3,7 +3,7 @@
 use Rattle.std.proofs.Common.{◌≡◌, ℕ, ◌-◌, ◌*◌, ◌≤◌, Bool, true, false, cond, eqb, ltb, ◌≢◌, ◌⊎◌, ◌↔◌, List, [], ◌∷◌, length, replicate, pos, sym, refl, ◌∙◌, subst, inl, inr, ⊎_elim, arith, take_at, ltb-false, ltb-true, eqb-true}
 use borrow.Author.Tests.{eqb-false}
 use lib.Ieee.{fin, binary32, of_int, div}
-use Rattle.value.specs.Answers.{verdictNumber, blockNumber, blockPercents}
+use Rattle.value.specs.Answers.{verdict_number, block_number, block_percents}
 use Rattle.value.specs.Block.{shows, any_shows, sum_of, percents_of, shares_of, verdict_of, block_by, block_of}
 use Rattle.value.specs.Claims.{IsCode, Some, here, there, Fault17, Fault18, AddUp, nothing, plus, EachRead, no_more, and_so}
 use Rattle.value.specs.Read.{percent_of, read_share, read_as}
@@ -84,44 +84,44 @@ judged bs = go (eqb (length bs) 0) (ltb 8 (length bs)) (any_shows Valueless bs) 
     go false false false false true e f n m s = (clean e f n, m, eqb-true (sum_of bs) 200 s)
     go false false false false false e f n m s = (clean e f n, m, eqb-false (sum_of bs) 200 s)
 
-named : (v : Verdict) (bs : List ℕ) → blockNumber (block_by v bs) ≡ verdictNumber v
+named : (v : Verdict) (bs : List ℕ) → block_number (block_by v bs) ≡ verdict_number v
 named Accepted bs = refl
 named NoBlock bs = refl
 named ShareMissing bs = refl
 named NotAHundred bs = refl
 
 -- which numbers exactly when, the lowest first, whichever share has the fault
-pub refused_17_block : (bs : List ℕ) → (blockNumber (block_of bs) ≡ 17) ↔ Fault17 bs
+pub refused_17_block : (bs : List ℕ) → (block_number (block_of bs) ≡ 17) ↔ Fault17 bs
 refused_17_block bs = rw (named (verdict_of bs) bs) (go (verdict_of bs) (judged bs))
   where
-    go : (v : Verdict) → Judged bs v → (verdictNumber v ≡ 17) ↔ Fault17 bs
+    go : (v : Verdict) → Judged bs v → (verdict_number v ≡ 17) ↔ Fault17 bs
     go NoBlock j = (λ q. j, λ h. refl)
     go ShareMissing j = (λ q. absurd (omega (arith, q)), λ h. absurd (j.0 h))
     go NotAHundred j = (λ q. absurd (omega (arith, q)), λ h. absurd (j.0 h))
     go Accepted j = (λ q. absurd (omega (arith, q)), λ h. absurd (j.0 h))
 
-pub refused_18 : (bs : List ℕ) → (blockNumber (block_of bs) ≡ 18) ↔ ((Fault17 bs → ⊥) × Fault18 bs)
+pub refused_18 : (bs : List ℕ) → (block_number (block_of bs) ≡ 18) ↔ ((Fault17 bs → ⊥) × Fault18 bs)
 refused_18 bs = rw (named (verdict_of bs) bs) (go (verdict_of bs) (judged bs))
   where
-    go : (v : Verdict) → Judged bs v → (verdictNumber v ≡ 18) ↔ ((Fault17 bs → ⊥) × Fault18 bs)
+    go : (v : Verdict) → Judged bs v → (verdict_number v ≡ 18) ↔ ((Fault17 bs → ⊥) × Fault18 bs)
     go NoBlock j = (λ q. absurd (omega (arith, q)), λ h. absurd (h.0 j))
     go ShareMissing j = (λ q. j, λ h. refl)
     go NotAHundred j = (λ q. absurd (omega (arith, q)), λ h. absurd (j.1 h.1))
     go Accepted j = (λ q. absurd (omega (arith, q)), λ h. absurd (j.1 h.1))
 
-pub refused_19 : (bs : List ℕ) → (blockNumber (block_of bs) ≡ 19) ↔ ((Fault17 bs → ⊥) × (Fault18 bs → ⊥) × (sum_of bs ≢ 200))
+pub refused_19 : (bs : List ℕ) → (block_number (block_of bs) ≡ 19) ↔ ((Fault17 bs → ⊥) × (Fault18 bs → ⊥) × (sum_of bs ≢ 200))
 refused_19 bs = rw (named (verdict_of bs) bs) (go (verdict_of bs) (judged bs))
   where
-    go : (v : Verdict) → Judged bs v → (verdictNumber v ≡ 19) ↔ ((Fault17 bs → ⊥) × (Fault18 bs → ⊥) × (sum_of bs ≢ 200))
+    go : (v : Verdict) → Judged bs v → (verdict_number v ≡ 19) ↔ ((Fault17 bs → ⊥) × (Fault18 bs → ⊥) × (sum_of bs ≢ 200))
     go NoBlock j = (λ q. absurd (omega (arith, q)), λ h. absurd (h.0 j))
     go ShareMissing j = (λ q. absurd (omega (arith, q)), λ h. absurd (h.1 j.1))
     go NotAHundred j = (λ q. j, λ h. refl)
     go Accepted j = (λ q. absurd (omega (arith, q)), λ h. absurd (h.2 j.2))
 
-pub accepted_exactly_when : (bs : List ℕ) → (blockNumber (block_of bs) ≡ 0) ↔ ((Fault17 bs → ⊥) × (Fault18 bs → ⊥) × (sum_of bs ≡ 200))
+pub accepted_exactly_when : (bs : List ℕ) → (block_number (block_of bs) ≡ 0) ↔ ((Fault17 bs → ⊥) × (Fault18 bs → ⊥) × (sum_of bs ≡ 200))
 accepted_exactly_when bs = rw (named (verdict_of bs) bs) (go (verdict_of bs) (judged bs))
   where
-    go : (v : Verdict) → Judged bs v → (verdictNumber v ≡ 0) ↔ ((Fault17 bs → ⊥) × (Fault18 bs → ⊥) × (sum_of bs ≡ 200))
+    go : (v : Verdict) → Judged bs v → (verdict_number v ≡ 0) ↔ ((Fault17 bs → ⊥) × (Fault18 bs → ⊥) × (sum_of bs ≡ 200))
     go NoBlock j = (λ q. absurd (omega (arith, q)), λ h. absurd (h.0 j))
     go ShareMissing j = (λ q. absurd (omega (arith, q)), λ h. absurd (h.1 j.1))
     go NotAHundred j = (λ q. absurd (omega (arith, q)), λ h. absurd (j.2 h.2))
@@ -149,32 +149,32 @@ each_read (b ∷ bs) n m =
     and_so (read_half b l) (each_read bs (λ s. n (there s)) (λ s. m (there s)))
 
 -- an accepted block gives the shares of its codes
-shares_given : (bs : List ℕ) (v : Verdict) → verdictNumber v ≡ 0 → blockPercents (block_by v bs) ≡ percents_of bs
+shares_given : (bs : List ℕ) (v : Verdict) → verdict_number v ≡ 0 → block_percents (block_by v bs) ≡ percents_of bs
 unfolding shares_of
 shares_given bs Accepted e = take_at (percents_of bs) (replicate (8 - length bs) (fin false 0 (pos 0))) (length bs) (length_percents bs)
 shares_given bs NoBlock e = absurd (omega (arith, e))
 shares_given bs ShareMissing e = absurd (omega (arith, e))
 shares_given bs NotAHundred e = absurd (omega (arith, e))
 
-given : (bs : List ℕ) → blockNumber (block_of bs) ≡ 0 → blockPercents (block_of bs) ≡ percents_of bs
+given : (bs : List ℕ) → block_number (block_of bs) ≡ 0 → block_percents (block_of bs) ≡ percents_of bs
 given bs e = shares_given bs (verdict_of bs) (sym (named (verdict_of bs) bs) ∙ e)
 
 -- as exact numbers they add up to 100 percent
-pub shares_make_a_hundred : (bs : List ℕ) → blockNumber (block_of bs) ≡ 0 → AddUp 2 (blockPercents (block_of bs)) (100 * 2)
+pub shares_make_a_hundred : (bs : List ℕ) → block_number (block_of bs) ≡ 0 → AddUp 2 (block_percents (block_of bs)) (100 * 2)
 shares_make_a_hundred bs e =
     let j = (accepted_exactly_when bs).0 e in
     rw (given bs e) (subst (AddUp 2 (percents_of bs)) j.2 (adds_up bs (λ s. j.0 (inr (inr s))) j.1))
 
-pub shares_as_read : (bs : List ℕ) → blockNumber (block_of bs) ≡ 0 → EachRead bs (blockPercents (block_of bs))
+pub shares_as_read : (bs : List ℕ) → block_number (block_of bs) ≡ 0 → EachRead bs (block_percents (block_of bs))
 shares_as_read bs e =
     let j = (accepted_exactly_when bs).0 e in
     rw (given bs e) (each_read bs (λ s. j.0 (inr (inr s))) j.1)
 
 -- a refused block gives none
-pub refused_gives_none : (bs : List ℕ) → blockNumber (block_of bs) ≢ 0 → blockPercents (block_of bs) ≡ []
+pub refused_gives_none : (bs : List ℕ) → block_number (block_of bs) ≢ 0 → block_percents (block_of bs) ≡ []
 refused_gives_none bs n = go (verdict_of bs) (λ e. n (named (verdict_of bs) bs ∙ e))
   where
-    go : (v : Verdict) → (verdictNumber v ≡ 0 → ⊥) → blockPercents (block_by v bs) ≡ []
+    go : (v : Verdict) → (verdict_number v ≡ 0 → ⊥) → block_percents (block_by v bs) ≡ []
     go Accepted f = absurd (f refl)
     go NoBlock f = refl
     go ShareMissing f = refl
@@ -185,6 +185,6 @@ pub thirty_five : read_as Data1c (70 ∷ []) ≡ Of (Percent (of_int binary32 (p
 unfolding read_as read_share percent_of steps_of div of_int
 thirty_five = refl
 
-pub burners_refused : blockNumber (block_of (70 ∷ 70 ∷ 70 ∷ 70 ∷ [])) ≡ 19
+pub burners_refused : block_number (block_of (70 ∷ 70 ∷ 70 ∷ 70 ∷ [])) ≡ 19
 unfolding verdict_of any_shows read_share sum_of
 burners_refused = refl

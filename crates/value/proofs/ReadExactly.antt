@@ -1,6 +1,6 @@
 -- Which codes are whole numbers and which are missing (02, E2): two decimal digits, and one code for each type. Assumes nothing.
 use Rattle.std.proofs.Common.{◌≡◌, ℕ, ◌+◌, ◌*◌, ◌<◌, ◌↔◌, List, [], ◌∷◌, sym, refl, ap, ◌∙◌}
-use Rattle.value.specs.Answers.{codeBytes}
+use Rattle.value.specs.Answers.{code_bytes}
 use Rattle.value.specs.Claims.{Bytes, missing_code}
 use Rattle.value.specs.Read.{read_bcd, read_share, read_signed, read_as}
 use Rattle.value.specs.Write.{two, write_as}
@@ -16,7 +16,7 @@ pub whole_read : (tens ones : ℕ) → tens < 10 → ones < 10 → read_as Bcd (
 unfolding read_as
 whole_read tens ones t o = read_digits tens ones t o
 
-written_missing : (t : DataType) → codeBytes (write_as t Missing) ≡ missing_code t
+written_missing : (t : DataType) → code_bytes (write_as t Missing) ≡ missing_code t
 unfolding two
 written_missing Bcd = refl
 written_missing Data1c = refl

@@ -4,7 +4,7 @@ use Rattle.std.proofs.Common.{◌≡◌, ℕ, zero, suc, ◌+◌, ◌-◌, ◌*�
 use borrow.Author.Tests.{eqb-false}
 use lib.Ieee.{Float, binary32, of_bits}
 use lib.Ieee.Bits.{of_bits-fits}
-use Rattle.value.specs.Answers.{readingNumber, codeNumber, codeBytes}
+use Rattle.value.specs.Answers.{reading_number, code_number, code_bytes}
 use Rattle.value.specs.Claims.{Bytes, IsCode, bcd, bcd_missing, halves, halves_missing, parts256, parts16, signed, places, IsNumber, InRange, float_of, Held, plain}
 use Rattle.value.specs.Read.{read_bcd, read_share, read_signed, read_as}
 use Rattle.value.specs.Steps.{per, count_of}
@@ -82,10 +82,10 @@ known Data2b (low ∷ high ∷ []) B = signed_known Data2b 8 (low + 256 * high) 
 known Data2c (low ∷ high ∷ []) B = signed_known Data2c 4 (low + 256 * high) (low ∷ high ∷ []) (read_signed (per 4) low high) (parts16 (B 0) (B 1)) (signed_read 4 low high)
 known t (a ∷ b ∷ c ∷ rest) B = λ i. let e = code_length t (a ∷ b ∷ c ∷ rest) i in omega (arith, (few t).1)
 
-pub refused_17_reading : (t : DataType) (bs : List ℕ) → Bytes bs → (readingNumber (read_as t bs) ≡ 17) ↔ (IsCode t bs → ⊥)
+pub refused_17_reading : (t : DataType) (bs : List ℕ) → Bytes bs → (reading_number (read_as t bs) ≡ 17) ↔ (IsCode t bs → ⊥)
 refused_17_reading t bs B = go (read_as t bs) (known t bs B)
   where
-    go : (r : Reading) → Known t bs r → (readingNumber r ≡ 17) ↔ (IsCode t bs → ⊥)
+    go : (r : Reading) → Known t bs r → (reading_number r ≡ 17) ↔ (IsCode t bs → ⊥)
     go (Of v) i = (λ e. absurd (omega (arith, e)), λ f. absurd (f i))
     go NoValue f = (λ e. f, λ g. refl)
 
@@ -102,25 +102,25 @@ pub two_bytes : (low high : ℕ) → low < 256 → high < 256 → Bytes (low ∷
 two_bytes low high l h zero = l
 two_bytes low high l h (suc i) = one_byte high h i
 
-bcd_bytes : (n : ℕ) → Bytes (codeBytes (bcd_of n))
+bcd_bytes : (n : ℕ) → Bytes (code_bytes (bcd_of n))
 unfolding bcd_of
 bcd_bytes n = go (ltb n 100) refl
   where
-    go : (b : Bool) → ltb n 100 ≡ b → Bytes (codeBytes (cond b (One (n / 10 * 16 + n % 10)) NoCode))
+    go : (b : Bool) → ltb n 100 ≡ b → Bytes (code_bytes (cond b (One (n / 10 * 16 + n % 10)) NoCode))
     go true e = let l : n < 100 = ltb-true n 100 e in one_byte (n / 10 * 16 + n % 10) (omega arith)
     go false e = no_bytes
 
-share_bytes : (x : Float) (r : Code) → Halves.Written x r → Bytes (codeBytes r)
+share_bytes : (x : Float) (r : Code) → Halves.Written x r → Bytes (code_bytes r)
 share_bytes x (One n) w = let l = w.0 in one_byte n (omega arith)
 share_bytes x (Two low high) w = absurd w
 share_bytes x NoCode w = no_bytes
 
-signed_bytes : (k : ℕ) (x : Float) (r : Code) → Signed.Written k x r → Bytes (codeBytes r)
+signed_bytes : (k : ℕ) (x : Float) (r : Code) → Signed.Written k x r → Bytes (code_bytes r)
 signed_bytes k x (One n) w = absurd w
 signed_bytes k x (Two low high) w = two_bytes low high w.0 w.1
 signed_bytes k x NoCode w = no_bytes
 
-pub written_bytes : (t : DataType) (v : Value) → Bytes (codeBytes (write_as t v))
+pub written_bytes : (t : DataType) (v : Value) → Bytes (code_bytes (write_as t v))
 written_bytes Bcd (Whole n) = bcd_bytes n
 written_bytes Bcd (Percent x) = no_bytes
 written_bytes Bcd (Temperature x) = no_bytes
@@ -148,28 +148,28 @@ no_bytes_read : (t : DataType) (v : Value) → read_as t [] ≡ Of v → ⊥
 unfolding read_as
 no_bytes_read t v e = let z : ◌≡◌ {A = ℕ} 0 1 = cc in omega arith
 
-pub refused_17 : (t : DataType) (v : Value) → Held v → (codeNumber (write_as t v) ≡ 17) ↔ NoneHas t v
+pub refused_17 : (t : DataType) (v : Value) → Held v → (code_number (write_as t v) ≡ 17) ↔ NoneHas t v
 refused_17 t v H = go (write_as t v) refl
   where
-    some : (r : Code) → write_as t v ≡ r → codeNumber r ≡ 0 → NoneHas t v → ⊥
-    some r e z f = f (codeBytes (write_as t v)) (written_bytes t v) (written_is_read t v H (ap codeNumber e ∙ z))
+    some : (r : Code) → write_as t v ≡ r → code_number r ≡ 0 → NoneHas t v → ⊥
+    some r e z f = f (code_bytes (write_as t v)) (written_bytes t v) (written_is_read t v H (ap code_number e ∙ z))
 
     none : write_as t v ≡ NoCode → NoneHas t v
     none e bs B r =
-        let same : codeBytes NoCode ≡ bs = ap codeBytes (sym (plain_written t v ∙ e)) ∙ read_is_written t bs (plain v) B r in
+        let same : code_bytes NoCode ≡ bs = ap code_bytes (sym (plain_written t v ∙ e)) ∙ read_is_written t bs (plain v) B r in
         no_bytes_read t (plain v) (ap (read_as t) same ∙ r)
 
-    go : (r : Code) → write_as t v ≡ r → (codeNumber r ≡ 17) ↔ NoneHas t v
+    go : (r : Code) → write_as t v ≡ r → (code_number r ≡ 17) ↔ NoneHas t v
     go (One b) e = (λ q. absurd (omega (arith, q)), λ f. absurd (some (One b) e refl f))
     go (Two low high) e = (λ q. absurd (omega (arith, q)), λ f. absurd (some (Two low high) e refl f))
     go NoCode e = (λ q. none e, λ f. refl)
 
 -- over all bit patterns of an f32, as a percentage and as a temperature
-pub refused_17_percent_bits : (t : DataType) (n : ℕ) → (codeNumber (write_as t (Percent (of_bits binary32 n))) ≡ 17) ↔ NoneHas t (Percent (of_bits binary32 n))
+pub refused_17_percent_bits : (t : DataType) (n : ℕ) → (code_number (write_as t (Percent (of_bits binary32 n))) ≡ 17) ↔ NoneHas t (Percent (of_bits binary32 n))
 refused_17_percent_bits t n = refused_17 t (Percent (of_bits binary32 n)) (of_bits-fits binary32 n)
 
 pub refused_17_temperature_bits : (t : DataType) (n : ℕ)
-    → (codeNumber (write_as t (Temperature (of_bits binary32 n))) ≡ 17) ↔ NoneHas t (Temperature (of_bits binary32 n))
+    → (code_number (write_as t (Temperature (of_bits binary32 n))) ≡ 17) ↔ NoneHas t (Temperature (of_bits binary32 n))
 refused_17_temperature_bits t n = refused_17 t (Temperature (of_bits binary32 n)) (of_bits-fits binary32 n)
 
 -- ---- by numbers: refused exactly when the float is no number of steps in the type's range
@@ -194,7 +194,7 @@ of_signed n h m = go (ltb n 32768) refl
         past true q = absurd (m (eqb-true n 32768 q))
         past false q = omega (arith, ltb-false n 32768 e, eqb-false n 32768 q)
 
-share_none : (x : Float) (r : Code) → share_of (count_of (per 1) x) ≡ r → Halves.Written x r → (codeNumber r ≡ 17) ↔ NoNumber Data1c x
+share_none : (x : Float) (r : Code) → share_of (count_of (per 1) x) ≡ r → Halves.Written x r → (code_number r ≡ 17) ↔ NoNumber Data1c x
 share_none x (One n) e w = (λ q. absurd (omega (arith, q)), λ f. absurd (f (pos n) w.0 w.1))
 share_none x (Two low high) e w = absurd w
 share_none x NoCode e w = (λ q. no, λ f. refl)
@@ -204,7 +204,7 @@ share_none x NoCode e w = (λ q. no, λ f. refl)
     no (negsuc n) h g = h
 
 signed_none : (k : ℕ) (x : Float) (r : Code) → k ≤ 149 → signed_of (count_of (per k) x) ≡ r → Signed.Written k x r
-    → (codeNumber r ≡ 17) ↔ ((z : ℤ) → InRange Data2b z → IsNumber x z (2 ^ k) → ⊥)
+    → (code_number r ≡ 17) ↔ ((z : ℤ) → InRange Data2b z → IsNumber x z (2 ^ k) → ⊥)
 signed_none k x (One n) K e w = absurd w
 signed_none k x (Two low high) K e w =
     let l : low < 256 = w.0 in
@@ -220,18 +220,18 @@ signed_none k x NoCode K e w = (λ q. no, λ f. refl)
         let s = signed_of_lem z h in
         clash s.0 (sym (Signed.write_number k s.0 x K s.1 s.2 (subst (λ (y : ℤ). IsNumber x y (2 ^ k)) (sym s.3) g)) ∙ e)
 
-pub refused_17_by_numbers : (t : DataType) (x : Float) → (codeNumber (write_as t (float_of t x)) ≡ 17) ↔ NoNumber t x
+pub refused_17_by_numbers : (t : DataType) (x : Float) → (code_number (write_as t (float_of t x)) ≡ 17) ↔ NoNumber t x
 refused_17_by_numbers Bcd x = (λ q z h g. h, λ f. refl)
 refused_17_by_numbers Data1c x = share_none x (share_of (count_of (per 1) x)) refl (Halves.write_right x)
 refused_17_by_numbers Data2b x = signed_none 8 x (signed_of (count_of (per 8) x)) (lit≤ tt) refl (Signed.write_right 8 x (lit≤ tt))
 refused_17_by_numbers Data2c x = signed_none 4 x (signed_of (count_of (per 4) x)) (lit≤ tt) refl (Signed.write_right 4 x (lit≤ tt))
 
 -- whole numbers
-pub refused_17_whole : (n : ℕ) → (codeNumber (write_as Bcd (Whole n)) ≡ 17) ↔ (99 < n)
+pub refused_17_whole : (n : ℕ) → (code_number (write_as Bcd (Whole n)) ≡ 17) ↔ (99 < n)
 unfolding bcd_of
 refused_17_whole n = go (ltb n 100) refl
   where
-    go : (b : Bool) → ltb n 100 ≡ b → (codeNumber (cond b (One (n / 10 * 16 + n % 10)) NoCode) ≡ 17) ↔ (99 < n)
+    go : (b : Bool) → ltb n 100 ≡ b → (code_number (cond b (One (n / 10 * 16 + n % 10)) NoCode) ≡ 17) ↔ (99 < n)
     go true e = (λ q. absurd (omega (arith, q)), λ (h : 99 < n). absurd (omega (arith, ltb-true n 100 e, h)))
     go false e = (λ q. ltb-false n 100 e, λ h. refl)
 

@@ -1,7 +1,7 @@
 -- Codes and values worked out, by computing. A float is `fin s m e`: m * 2 ^ e, below zero where s is true. Assumes nothing.
 use Rattle.std.proofs.Common.{◌≡◌, true, false, [], ◌∷◌, pos, negsuc, refl}
 use lib.Ieee.{nan, inf, fin, of_int, mul, div, neg, lt, eq, to_unsigned}
-use Rattle.value.specs.Answers.{blockNumber, blockPercents}
+use Rattle.value.specs.Answers.{block_number, block_percents}
 use Rattle.value.specs.Block.{any_shows, sum_of, percents_of, shares_of, verdict_of, block_of}
 use Rattle.value.specs.Read.{read_bcd, percent_of, read_share, read_signed, read_as}
 use Rattle.value.specs.Steps.{steps_of, size_of, count_of}
@@ -88,19 +88,19 @@ forty_two_written = refl
 
 -- ---- blocks
 
-pub fifty_fifty : blockPercents (block_of (100 ∷ 100 ∷ [])) ≡ fin false 25 (pos 1) ∷ fin false 25 (pos 1) ∷ []
+pub fifty_fifty : block_percents (block_of (100 ∷ 100 ∷ [])) ≡ fin false 25 (pos 1) ∷ fin false 25 (pos 1) ∷ []
 unfolding verdict_of any_shows read_share sum_of shares_of percents_of percent_of steps_of of_int div
 fifty_fifty = refl
 
 -- the lowest number is named, whichever share has the fault
-pub seventeen_first : blockNumber (block_of (0xff ∷ 100 ∷ 201 ∷ [])) ≡ 17
+pub seventeen_first : block_number (block_of (0xff ∷ 100 ∷ 201 ∷ [])) ≡ 17
 unfolding verdict_of any_shows read_share
 seventeen_first = refl
 
-pub then_eighteen : blockNumber (block_of (100 ∷ 0xff ∷ [])) ≡ 18
+pub then_eighteen : block_number (block_of (100 ∷ 0xff ∷ [])) ≡ 18
 unfolding verdict_of any_shows read_share
 then_eighteen = refl
 
-pub nine_shares : blockNumber (block_of (100 ∷ 100 ∷ 0 ∷ 0 ∷ 0 ∷ 0 ∷ 0 ∷ 0 ∷ 0 ∷ [])) ≡ 17
+pub nine_shares : block_number (block_of (100 ∷ 100 ∷ 0 ∷ 0 ∷ 0 ∷ 0 ∷ 0 ∷ 0 ∷ 0 ∷ [])) ≡ 17
 unfolding verdict_of
 nine_shares = refl

@@ -2,7 +2,7 @@
 -- each code one value. Assumes nothing.
 use Rattle.std.proofs.Common.{◌≡◌, ℕ, ◌+◌, ◌*◌, ◌<◌, ◌≤◌, T, List, [], ◌∷◌, sym, refl, ap, ◌∙◌, subst, arith, lit≤}
 use lib.Ieee.{Float, binary32, fits}
-use Rattle.value.specs.Answers.{readingValues, codeNumber, codeBytes}
+use Rattle.value.specs.Answers.{reading_values, code_number, code_bytes}
 use Rattle.value.specs.Claims.{Bytes, Held, plain_float, plain}
 use Rattle.value.specs.Read.{read_bcd, read_share, read_signed, read_as}
 use Rattle.value.specs.Steps.{per, count_of}
@@ -28,31 +28,31 @@ Wrong = ◌≡◌ {A = ℕ} 0 1
 
 -- ---- written, then read
 
-bcd_back : (n : ℕ) (r : Code) → bcd_of n ≡ r → codeNumber r ≡ 0 → read_as Bcd (codeBytes r) ≡ Of (Whole n)
+bcd_back : (n : ℕ) (r : Code) → bcd_of n ≡ r → code_number r ≡ 0 → read_as Bcd (code_bytes r) ≡ Of (Whole n)
 unfolding read_as
 bcd_back n (One b) e h = Digits.back n b e
 bcd_back n (Two low high) e h = absurd (Digits.one_byte n low high e)
 bcd_back n NoCode e h = absurd (omega arith)
 
-share_back : (x : Float) → T (fits binary32 x) → (r : Code) → share_of (count_of (per 1) x) ≡ r → codeNumber r ≡ 0 → read_as Data1c (codeBytes r) ≡ Of (Percent (plain_float x))
+share_back : (x : Float) → T (fits binary32 x) → (r : Code) → share_of (count_of (per 1) x) ≡ r → code_number r ≡ 0 → read_as Data1c (code_bytes r) ≡ Of (Percent (plain_float x))
 unfolding read_as
 share_back x F (One b) e h = Halves.back x F b e
 share_back x F (Two low high) e h = absurd (subst (Halves.Written x) e (Halves.write_right x))
 share_back x F NoCode e h = absurd (omega arith)
 
-signed_back : (k : ℕ) (x : Float) → k ≤ 149 → T (fits binary32 x) → (r : Code) → signed_of (count_of (per k) x) ≡ r → codeNumber r ≡ 0
-    → (low : ℕ) × (high : ℕ) × (codeBytes r ≡ low ∷ high ∷ []) × (read_signed (per k) low high ≡ Of (Temperature (plain_float x)))
+signed_back : (k : ℕ) (x : Float) → k ≤ 149 → T (fits binary32 x) → (r : Code) → signed_of (count_of (per k) x) ≡ r → code_number r ≡ 0
+    → (low : ℕ) × (high : ℕ) × (code_bytes r ≡ low ∷ high ∷ []) × (read_signed (per k) low high ≡ Of (Temperature (plain_float x)))
 signed_back k x K F (One b) e h = absurd (subst (Signed.Written k x) e (Signed.write_right k x K))
 signed_back k x K F (Two low high) e h = (low, high, refl, Signed.back k x K F low high e)
 signed_back k x K F NoCode e h = absurd (omega arith)
 
 two_back : (k : ℕ) (t : DataType) → ((low high : ℕ) → read_as t (low ∷ high ∷ []) ≡ read_signed (per k) low high) → (x : Float) → k ≤ 149
-    → T (fits binary32 x) → codeNumber (signed_of (count_of (per k) x)) ≡ 0 → read_as t (codeBytes (signed_of (count_of (per k) x))) ≡ Of (Temperature (plain_float x))
+    → T (fits binary32 x) → code_number (signed_of (count_of (per k) x)) ≡ 0 → read_as t (code_bytes (signed_of (count_of (per k) x))) ≡ Of (Temperature (plain_float x))
 two_back k t same x K F h =
     let s = signed_back k x K F (signed_of (count_of (per k) x)) refl h in
     ap (read_as t) s.2 ∙ same s.0 s.1 ∙ s.3
 
-pub written_is_read : (t : DataType) (v : Value) → Held v → codeNumber (write_as t v) ≡ 0 → read_as t (codeBytes (write_as t v)) ≡ Of (plain v)
+pub written_is_read : (t : DataType) (v : Value) → Held v → code_number (write_as t v) ≡ 0 → read_as t (code_bytes (write_as t v)) ≡ Of (plain v)
 written_is_read Bcd (Whole n) H h = bcd_back n (bcd_of n) refl h
 written_is_read Bcd (Percent x) H h = absurd (omega arith)
 written_is_read Bcd (Temperature x) H h = absurd (omega arith)
@@ -71,40 +71,40 @@ written_is_read Data2c (Temperature x) H h = two_back 4 Data2c (λ low high. unf
 written_is_read Data2c Missing H h = unfold two read_as read_signed in refl
 
 -- the same in 02's numbers and values
-pub gives_back : (t : DataType) (v : Value) → Held v → codeNumber (write_as t v) ≡ 0 → readingValues (read_as t (codeBytes (write_as t v))) ≡ plain v ∷ []
-gives_back t v H h = ap readingValues (written_is_read t v H h)
+pub gives_back : (t : DataType) (v : Value) → Held v → code_number (write_as t v) ≡ 0 → reading_values (read_as t (code_bytes (write_as t v))) ≡ plain v ∷ []
+gives_back t v H h = ap reading_values (written_is_read t v H h)
 
 -- ---- read, then written
 
 abbrev Coded : DataType → List ℕ → Reading → Type 0
-Coded t bs (Of v) = codeBytes (write_as t v) ≡ bs
+Coded t bs (Of v) = code_bytes (write_as t v) ≡ bs
 Coded t bs NoValue = Unit {0}
 
 bcd_forth : (b : ℕ) (r : Reading) → BcdRead b r → Coded Bcd (b ∷ []) r
-bcd_forth b r (BcdRead.digits tens ones t o e) = ap codeBytes (write_digits tens ones t o) ∙ ap (λ (n : ℕ). n ∷ []) (sym e)
+bcd_forth b r (BcdRead.digits tens ones t o e) = ap code_bytes (write_digits tens ones t o) ∙ ap (λ (n : ℕ). n ∷ []) (sym e)
 bcd_forth b r (BcdRead.missing e) = ap (λ (n : ℕ). n ∷ []) (sym e)
 bcd_forth b r (BcdRead.none f) = tt
 
 share_forth : (b : ℕ) (r : Reading) → ShareRead b r → Coded Data1c (b ∷ []) r
-share_forth b r (ShareRead.share l) = ap codeBytes (Halves.forth b l)
+share_forth b r (ShareRead.share l) = ap code_bytes (Halves.forth b l)
 share_forth b r (ShareRead.missing e) = ap (λ (n : ℕ). n ∷ []) (sym e)
 share_forth b r (ShareRead.none l e) = tt
 
 abbrev CodedTwo : ℕ → List ℕ → Reading → Type 0
-CodedTwo k bs (Of (Temperature x)) = codeBytes (signed_of (count_of (per k) x)) ≡ bs
-CodedTwo k bs (Of Missing) = codeBytes (two 0x8000) ≡ bs
+CodedTwo k bs (Of (Temperature x)) = code_bytes (signed_of (count_of (per k) x)) ≡ bs
+CodedTwo k bs (Of Missing) = code_bytes (two 0x8000) ≡ bs
 CodedTwo k bs (Of (Whole n)) = ⊥
 CodedTwo k bs (Of (Percent x)) = ⊥
 CodedTwo k bs NoValue = ⊥
 
 two_forth : (k low high : ℕ) → k ≤ 149 → low < 256 → high < 256 → (r : Reading) → SignedRead k (low + 256 * high) r → CodedTwo k (low ∷ high ∷ []) r
-two_forth k low high K l h r (SignedRead.number e) = ap codeBytes (Signed.forth k low high K l h e)
-two_forth k low high K l h r (SignedRead.missing e) = ap (λ (n : ℕ). codeBytes (two n)) (sym e) ∙ ap codeBytes (bytes_of low high l h)
+two_forth k low high K l h r (SignedRead.number e) = ap code_bytes (Signed.forth k low high K l h e)
+two_forth k low high K l h r (SignedRead.missing e) = ap (λ (n : ℕ). code_bytes (two n)) (sym e) ∙ ap code_bytes (bytes_of low high l h)
 
 coded_two : (t : DataType) (k : ℕ) → ((x : Float) → write_as t (Temperature x) ≡ signed_of (count_of (per k) x)) → write_as t Missing ≡ two 0x8000
     → (bs : List ℕ) (r : Reading) → CodedTwo k bs r → Coded t bs r
-coded_two t k w m bs (Of (Temperature x)) c = ap codeBytes (w x) ∙ c
-coded_two t k w m bs (Of Missing) c = ap codeBytes m ∙ c
+coded_two t k w m bs (Of (Temperature x)) c = ap code_bytes (w x) ∙ c
+coded_two t k w m bs (Of Missing) c = ap code_bytes m ∙ c
 coded_two t k w m bs (Of (Whole n)) c = absurd c
 coded_two t k w m bs (Of (Percent x)) c = absurd c
 coded_two t k w m bs NoValue c = tt
@@ -124,7 +124,7 @@ forth Data2c (low ∷ high ∷ []) B =
     coded_two Data2c 4 (λ x. refl) refl (low ∷ high ∷ []) (read_signed (per 4) low high) (two_forth 4 low high (lit≤ tt) (B 0) (B 1) (read_signed (per 4) low high) (signed_read 4 low high))
 forth t (a ∷ b ∷ c ∷ rest) B = tt
 
-pub read_is_written : (t : DataType) (bs : List ℕ) (v : Value) → Bytes bs → read_as t bs ≡ Of v → codeBytes (write_as t v) ≡ bs
+pub read_is_written : (t : DataType) (bs : List ℕ) (v : Value) → Bytes bs → read_as t bs ≡ Of v → code_bytes (write_as t v) ≡ bs
 read_is_written t bs v B e = subst (Coded t bs) e (forth t bs B)
 
 -- ---- one code for each value, one value for each code
@@ -132,10 +132,10 @@ read_is_written t bs v B e = subst (Coded t bs) e (forth t bs B)
 pub one_code : (t : DataType) (bs cs : List ℕ) (v : Value) → Bytes bs → Bytes cs → read_as t bs ≡ Of v → read_as t cs ≡ Of v → bs ≡ cs
 one_code t bs cs v B C e f = sym (read_is_written t bs v B e) ∙ read_is_written t cs v C f
 
-pub one_value : (t : DataType) (v w : Value) → Held v → Held w → codeNumber (write_as t v) ≡ 0 → write_as t v ≡ write_as t w → plain v ≡ plain w
+pub one_value : (t : DataType) (v w : Value) → Held v → Held w → code_number (write_as t v) ≡ 0 → write_as t v ≡ write_as t w → plain v ≡ plain w
 one_value t v w H G h e =
     let same : Of (plain v) ≡ Of (plain w) =
-    sym (written_is_read t v H h) ∙ ap (λ (r : Code). read_as t (codeBytes r)) e ∙ written_is_read t w G (ap codeNumber (sym e) ∙ h) in
+    sym (written_is_read t v H h) ∙ ap (λ (r : Code). read_as t (code_bytes r)) e ∙ written_is_read t w G (ap code_number (sym e) ∙ h) in
     cc
 
 -- minus zero is written as zero is

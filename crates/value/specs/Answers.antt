@@ -9,33 +9,33 @@ use Rattle.value.specs.declared.value.Value.{Value}
 use Rattle.value.specs.declared.write.Code.{Code}
 use Rattle.value.specs.declared.write.Code.TheVariants.{One, Two, NoCode}
 
-abbrev pub readingNumber : Reading → ℕ
-readingNumber (Of v) = 0
-readingNumber NoValue = 17
+abbrev pub reading_number : Reading → ℕ
+reading_number (Of v) = 0
+reading_number NoValue = 17
 
-abbrev pub readingValues : Reading → List Value
-readingValues (Of v) = v ∷ []
-readingValues NoValue = []
+abbrev pub reading_values : Reading → List Value
+reading_values (Of v) = v ∷ []
+reading_values NoValue = []
 
-abbrev pub codeNumber : Code → ℕ
-codeNumber (One b) = 0
-codeNumber (Two low high) = 0
-codeNumber NoCode = 17
+abbrev pub code_number : Code → ℕ
+code_number (One b) = 0
+code_number (Two low high) = 0
+code_number NoCode = 17
 
-abbrev pub codeBytes : Code → List ℕ
-codeBytes (One b) = b ∷ []
-codeBytes (Two low high) = low ∷ high ∷ []
-codeBytes NoCode = []
+abbrev pub code_bytes : Code → List ℕ
+code_bytes (One b) = b ∷ []
+code_bytes (Two low high) = low ∷ high ∷ []
+code_bytes NoCode = []
 
-abbrev pub verdictNumber : Verdict → ℕ
-verdictNumber Accepted = 0
-verdictNumber NoBlock = 17
-verdictNumber ShareMissing = 18
-verdictNumber NotAHundred = 19
+abbrev pub verdict_number : Verdict → ℕ
+verdict_number Accepted = 0
+verdict_number NoBlock = 17
+verdict_number ShareMissing = 18
+verdict_number NotAHundred = 19
 
-abbrev pub blockNumber : Block → ℕ
-blockNumber r = verdictNumber r.verdict
+abbrev pub block_number : Block → ℕ
+block_number r = verdict_number r.verdict
 
 -- the shares in percent
-abbrev pub blockPercents : Block → List Float
-blockPercents r = take r.shares.count r.shares.percents
+abbrev pub block_percents : Block → List Float
+block_percents r = take r.shares.count r.shares.percents

@@ -116,7 +116,7 @@ only AnswerPart head = []
 abbrev pub before : Part → Telegram → List ℕ
 before w t = only w (head_of t)
 
--- the wire form: of a master part `telegramForm t`, of an answer `answerForm t.load`
+-- the wire form: of a master part `telegram_form t`, of an answer `answer_form t.load`
 abbrev pub form_of : Part → Telegram → List ℕ
 form_of w t = form (before w t) (bytes_of t.load)
 

@@ -93,7 +93,7 @@ pub times_carried : map handed_out (inside ++ outside) ≡ map (λ (t : Timing).
 unfolding run in_transfer tells tellings events elapsed time_of
 times_carried = refl
 
--- ---- by the words of `elapsed-is-true`: 10 has the first seat
+-- ---- by the words of `elapsed_is_true`: 10 has the first seat
 
 abbrev after : Timing → Bus
 after t = after_calls (numbered t.from) t.calls

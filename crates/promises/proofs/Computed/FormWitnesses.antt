@@ -54,7 +54,7 @@ reads_part : Makes MasterPart (0x10 ∷ 0x08 ∷ 0x50 ∷ 0x02 ∷ 0x01 ∷ 0xA9
 unfolding run read_all
 reads_part = record { array = refl; outcome = refl; head = refl; bytes = refl; rest = refl }
 
--- with a wrong CRC other symbols are read as the same message: `queued-one-form` has to ask for the right one
+-- with a wrong CRC other symbols are read as the same message: `queued_one_form` has to ask for the right one
 reads_wrong_crc : Makes MasterPart (0x10 ∷ 0x08 ∷ 0x50 ∷ 0x02 ∷ 0x01 ∷ 0xA9 ∷ 0x01 ∷ 0xDD ∷ 0x00 ∷ []) false (0x10 ∷ 0x08 ∷ 0x50 ∷ 0x02 ∷ []) (0xAA ∷ []) (0x00 ∷ [])
 unfolding run read_all
 reads_wrong_crc = record { array = refl; outcome = refl; head = refl; bytes = refl; rest = refl }

@@ -44,12 +44,12 @@ pub longest_answer_accepted : verdict_on (after_calls powered_on two) (reply 0x0
 unfolding run
 longest_answer_accepted = refl
 
--- it has exactly the 39 symbols that `telegram-at-most-39` (wire) allows
+-- it has exactly the 39 symbols that `telegram_at_most_39` (wire) allows
 pub longest_has_39 : length (telegram_form (telegram_of 0x10 0x08 0x50 0x02 longest)) ≡ 39
 unfolding run
 longest_has_39 = refl
 
--- and the answer the 35 of `answer-at-most-35`
+-- and the answer the 35 of `answer_at_most_35`
 pub longest_answer_has_35 : length (answer_form (load_of longest_answer)) ≡ 35
 unfolding run
 longest_answer_has_35 = refl
