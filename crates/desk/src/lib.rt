@@ -41,7 +41,7 @@ pub fn read<R: Read>(from: &mut R, buffer: &mut [u8]) -> io::Result<usize>
 }
 
 // Writes the first bytes of a buffer, all of them where it has no more.
-pub fn write<W: Write>(to: &mut W, out: &[u8; ROOM], used: usize) -> Result<(), Failure>
+pub fn wrote<W: Write>(to: &mut W, out: &[u8; ROOM], used: usize) -> Result<(), Failure>
     ensures { OnOk result (Appends (W.contents to.old) (W.contents to.new) (take used out.now)) }
 {
     to.write_all(&out[..used.min(ROOM)])
@@ -54,7 +54,7 @@ pub fn refuse<W: Write>(f: Form, to: &mut W) -> Result<(), Failure>
 {
     let mut out = [0u8; ROOM];
     let used = scenario::lines::form_line(&mut out, 0, f);
-    write(to, &out, used)
+    wrote(to, &out, used)
 }
 
 fn run<W: Write>(s: &[u8], to: &mut W) -> Result<(), Failure>
@@ -64,7 +64,7 @@ fn run<W: Write>(s: &[u8], to: &mut W) -> Result<(), Failure>
     let mut p = Printing::start(s);
     while !p.is_done() {
         let f = p.fill(s, &mut out);
-        write(to, &out, f.used)?;
+        wrote(to, &out, f.used)?;
         p = f.printing;
     }
     Ok(())

@@ -12,7 +12,7 @@ use walk::form::Form;
 fn refuse<W: Write>(s: SetUp, f: Form, to: &mut W) -> Result<(), Failure> {
     let mut out = [0u8; ROOM];
     let used = diary::opening::opening(&mut out, s, f);
-    desk::write(to, &out, used)
+    desk::wrote(to, &out, used)
 }
 
 // The lines of records, fill after fill.
@@ -21,7 +21,7 @@ fn print<W: Write>(held: &[u8], to: &mut W) -> Result<(), Failure> {
     let mut at: usize = 0;
     while at < held.len() {
         let f = diary::lines::fill(held, at, &mut out);
-        desk::write(to, &out, f.used)?;
+        desk::wrote(to, &out, f.used)?;
         at = f.next;
     }
     Ok(())

@@ -1,5 +1,11 @@
-// A scenario from a reader, and the display's lines to a writer. What is filled is proved in `screen`.
+// A scenario from a reader, and the display's lines to a writer.
 #![tactic(auto)]
+
+ghost use Rattle.std.specs.Prelude.{◌≡◌, OnOk};
+ghost use Rattle.std.specs.Io.KnownBytes.{Appends};
+ghost use Rattle.walk.specs.Form.{form_of};
+ghost use Rattle.screen.specs.Output.{displayed};
+ghost use Rattle.desk.specs.Playing.{Plays};
 
 use desk::{Failure, INPUT};
 use scenario::pen::ROOM;
@@ -7,36 +13,35 @@ use screen::fill::Showing;
 use std::io::{Read, Write};
 use walk::form::Form;
 
-// The line of a bad form, alone.
-fn refuse<W: Write>(f: Form, to: &mut W) -> Result<(), Failure> {
-    let mut out = [0u8; ROOM];
-    let used = scenario::lines::form_line(&mut out, 0, f);
-    desk::write(to, &out, used)
-}
-
 // The lines of all fields, fill after fill.
-fn show<W: Write>(s: &[u8], to: &mut W) -> Result<(), Failure> {
+fn show<W: Write>(s: &[u8], to: &mut W) -> Result<(), Failure>
+    ensures { form_of s.now ≡ Form.Good → OnOk result (Appends (W.contents to.old) (W.contents to.new) (displayed s.now)) }
+{
     let mut out = [0u8; ROOM];
     let mut p = Showing::start();
     while !p.done {
         let f = p.fill(s, &mut out);
-        desk::write(to, &out, f.used)?;
+        desk::wrote(to, &out, f.used)?;
         p = f.showing;
     }
     Ok(())
 }
 
-fn run<W: Write>(s: &[u8], to: &mut W) -> Result<(), Failure> {
+fn run<W: Write>(s: &[u8], to: &mut W) -> Result<(), Failure>
+    ensures { OnOk result (Appends (W.contents to.old) (W.contents to.new) (displayed s.now)) }
+{
     let f = walk::form::form_of(s);
     match f {
         Form::Good => show(s, to),
-        Form::BadField(_) => refuse(f, to),
-        Form::TooLong => refuse(f, to),
+        Form::BadField(_) => desk::refuse(f, to),
+        Form::TooLong => desk::refuse(f, to),
     }
 }
 
 // The scenario that a reader gives.
-pub fn play<R: Read, W: Write>(from: &mut R, to: &mut W) -> Result<(), Failure> {
+pub fn play<R: Read, W: Write>(from: &mut R, to: &mut W) -> Result<(), Failure>
+    ensures { OnOk result (Plays displayed (R.remaining from.old) (R.remaining from.new) (W.contents to.old) (W.contents to.new)) }
+{
     let mut input = [0u8; INPUT];
     let n = desk::read(from, &mut input).map_err(Failure::Input)?;
     run(&input[..n], to)

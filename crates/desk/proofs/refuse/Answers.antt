@@ -10,4 +10,4 @@ pub returns : goal.returns
 returns g c =
     let line = c.form_line-used in
     let put = text_put _ (form_text c.args.f) line.new.page line.result refl (omega (arith, form_most c.args.f)) line.ensures in
-    subst (λ t. OnOk c.write.result (Appends (g.W.Write.contents c.args.to.now) (g.W.Write.contents c.write.new.to) t)) put c.write.ensures
+    subst (λ t. OnOk c.wrote.result (Appends (g.W.Write.contents c.args.to.now) (g.W.Write.contents c.wrote.new.to) t)) put c.wrote.ensures

@@ -1,4 +1,4 @@
-use Rattle.std.proofs.Common.{◌≡◌, ℕ, List, [], ◌++◌, ◌<◌, true, false, take, refl, sym, ap, subst, ◌∙◌, append_assoc, rules}
+use Rattle.std.proofs.Common.{◌≡◌, ℕ, List, [], ◌++◌, ◌<◌, false, take, refl, sym, ap, subst, ◌∙◌, append_assoc, rules}
 use mathlib.Core.Bool.{true≢false}
 use Rattle.std.proofs.KnownBytes.{Appends-nil, Appends-trans}
 use Rattle.walk.specs.Field.{Bytes}
@@ -20,10 +20,6 @@ goes : {s buffer x : List ℕ} {g : Printing} {n : ℕ} → Prints s g buffer n 
 goes (finished e) d = absurd (true≢false (sym e ∙ d))
 goes {s = s} (after {f = f} {buffer = buffer} {rest = rest} {n = n} d e w p) _ =
     subst (λ (v : Fill). Goes s v (take f.pen.at f.pen.page ++ rest)) (sym e) (record { rest = rest; fills = n; split = refl; prints = p })
-
-over : {s buffer x : List ℕ} {g : Printing} {n : ℕ} → Prints s g buffer n x → is_done g.stage ≡ true → x ≡ []
-over (finished e) d = refl
-over (after d e w p) t = absurd (true≢false (sym t ∙ d))
 
 pub loop-out-init : goal.loop-out-init
 loop-out-init g c =
@@ -50,6 +46,6 @@ loop-out-preserved g c =
       here.rest,
       here.fills,
       here.prints,
-      Appends-trans _ _ _ written now gained c.in_ok-write.ensures,
+      Appends-trans _ _ _ written now gained c.in_ok-wrote.ensures,
       append_assoc written now here.rest ∙ ap (λ l. written ++ l) (sym here.split) ∙ whole,
     )

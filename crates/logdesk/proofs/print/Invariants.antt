@@ -2,5 +2,5 @@
 use Rattle.std.proofs.Common.{◌-◌, length}
 use Rattle.logdesk.proofs.print.Given as goal
 
-abbrev pub decreases-loop-out : goal.decreases-loop-out
-decreases-loop-out g l = length l.held - l.at
+abbrev pub decreases-loop-at : goal.decreases-loop-at
+decreases-loop-at g l = length l.held - l.at
