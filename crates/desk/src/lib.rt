@@ -7,11 +7,11 @@ pub mod files;
 #[cfg(test)]
 mod tests;
 
-ghost use Rattle.std.specs.Prelude.{◌≡◌, ◌<◌, ◌≤◌, length, take, IfOk, OnOk};
+ghost use Rattle.std.specs.Prelude.{◌≡◌, ◌<◌, ◌≤◌, length, take, IfOk, IfErr, OnOk};
 ghost use Rattle.std.specs.Io.KnownBytes.{Appends, Consumes, IsAtEnd};
 ghost use Rattle.scenario.specs.Lines.{form_text};
 ghost use Rattle.scenario.specs.Output.{output};
-ghost use Rattle.desk.specs.Playing.{Plays};
+ghost use Rattle.desk.specs.Playing.{Plays, IsOfOutput, Leaves};
 
 pub use failure::Failure;
 use scenario::fill::Printing;
@@ -42,7 +42,8 @@ pub fn read<R: Read>(from: &mut R, buffer: &mut [u8]) -> io::Result<usize>
 
 // Writes the first bytes of a buffer, all of them where it has no more.
 pub fn wrote<W: Write>(to: &mut W, out: &[u8; ROOM], used: usize) -> Result<(), Failure>
-    ensures { OnOk result (Appends (W.contents to.old) (W.contents to.new) (take used out.now)) }
+    ensures ok { OnOk result (Appends (W.contents to.old) (W.contents to.new) (take used out.now)) }
+    ensures err { IfErr result IsOfOutput }
 {
     to.write_all(&out[..used.min(ROOM)])
         .map_err(Failure::Output)
@@ -50,7 +51,8 @@ pub fn wrote<W: Write>(to: &mut W, out: &[u8; ROOM], used: usize) -> Result<(), 
 
 // The line of a bad form, alone.
 pub fn refuse<W: Write>(f: Form, to: &mut W) -> Result<(), Failure>
-    ensures { OnOk result (Appends (W.contents to.old) (W.contents to.new) (form_text f)) }
+    ensures ok { OnOk result (Appends (W.contents to.old) (W.contents to.new) (form_text f)) }
+    ensures err { IfErr result IsOfOutput }
 {
     let mut out = [0u8; ROOM];
     let used = scenario::lines::form_line(&mut out, 0, f);
@@ -58,7 +60,8 @@ pub fn refuse<W: Write>(f: Form, to: &mut W) -> Result<(), Failure>
 }
 
 fn run<W: Write>(s: &[u8], to: &mut W) -> Result<(), Failure>
-    ensures { OnOk result (Appends (W.contents to.old) (W.contents to.new) (output s.now)) }
+    ensures ok { OnOk result (Appends (W.contents to.old) (W.contents to.new) (output s.now)) }
+    ensures err { IfErr result IsOfOutput }
 {
     let mut out = [0u8; ROOM];
     let mut p = Printing::start(s);
@@ -72,7 +75,8 @@ fn run<W: Write>(s: &[u8], to: &mut W) -> Result<(), Failure>
 
 // The scenario that a reader gives, run to its end.
 pub fn play<R: Read, W: Write>(from: &mut R, to: &mut W) -> Result<(), Failure>
-    ensures { OnOk result (Plays output (R.remaining from.old) (R.remaining from.new) (W.contents to.old) (W.contents to.new)) }
+    ensures ok { OnOk result (Plays output (R.remaining from.old) (R.remaining from.new) (W.contents to.old) (W.contents to.new)) }
+    ensures err { IfErr result (λ f. Leaves f (W.contents to.old) (W.contents to.new)) }
 {
     let mut input = [0u8; INPUT];
     let n = read(from, &mut input).map_err(Failure::Input)?;

@@ -1,11 +1,11 @@
 // A sheet from a reader, and its lines to a writer.
 #![tactic(auto)]
 
-ghost use Rattle.std.specs.Prelude.{◌≡◌, OnOk};
+ghost use Rattle.std.specs.Prelude.{◌≡◌, IfErr, OnOk};
 ghost use Rattle.std.specs.Io.KnownBytes.{Appends};
 ghost use Rattle.sheet.specs.Form.{form_of};
 ghost use Rattle.sheet.specs.Output.{values_output};
-ghost use Rattle.desk.specs.Playing.{Plays};
+ghost use Rattle.desk.specs.Playing.{Plays, IsOfOutput, Leaves};
 
 use desk::{Failure, INPUT};
 use scenario::pen::ROOM;
@@ -14,7 +14,8 @@ use walk::form::Form;
 
 // The lines of all fields, fill after fill.
 fn print<W: Write>(s: &[u8], to: &mut W) -> Result<(), Failure>
-    ensures { form_of s.now ≡ Form.Good → OnOk result (Appends (W.contents to.old) (W.contents to.new) (values_output s.now)) }
+    ensures ok { form_of s.now ≡ Form.Good → OnOk result (Appends (W.contents to.old) (W.contents to.new) (values_output s.now)) }
+    ensures err { IfErr result IsOfOutput }
 {
     let mut out = [0u8; ROOM];
     let mut at: usize = 0;
@@ -27,7 +28,8 @@ fn print<W: Write>(s: &[u8], to: &mut W) -> Result<(), Failure>
 }
 
 fn run<W: Write>(s: &[u8], to: &mut W) -> Result<(), Failure>
-    ensures { OnOk result (Appends (W.contents to.old) (W.contents to.new) (values_output s.now)) }
+    ensures ok { OnOk result (Appends (W.contents to.old) (W.contents to.new) (values_output s.now)) }
+    ensures err { IfErr result IsOfOutput }
 {
     let f = sheet::form::form_of(s);
     match f {
@@ -39,7 +41,8 @@ fn run<W: Write>(s: &[u8], to: &mut W) -> Result<(), Failure>
 
 // The sheet that a reader gives.
 pub fn play<R: Read, W: Write>(from: &mut R, to: &mut W) -> Result<(), Failure>
-    ensures { OnOk result (Plays values_output (R.remaining from.old) (R.remaining from.new) (W.contents to.old) (W.contents to.new)) }
+    ensures ok { OnOk result (Plays values_output (R.remaining from.old) (R.remaining from.new) (W.contents to.old) (W.contents to.new)) }
+    ensures err { IfErr result (λ f. Leaves f (W.contents to.old) (W.contents to.new)) }
 {
     let mut input = [0u8; INPUT];
     let n = desk::read(from, &mut input).map_err(Failure::Input)?;

@@ -30,10 +30,10 @@ text_is : (q : Question) (s buffer page : List ℕ) (used : ℕ) (b : Book) → 
 text_is q s buffer page used b bytes whole asked good after put =
     ap bytes_of (put ∙ ap (λ (k : Book). penned (pen buffer 0) (book_text q k)) after) ∙ counted_as (counts_writes q s buffer bytes whole) asked good
 
-pub returns : goal.returns
-returns g c = λ good asked.
+pub returns-clause-ok : goal.returns-clause-ok
+returns-clause-ok g c = λ good asked.
     let s = c.args.s.now in
     let text = c.text-used in
     let bytes : Bytes s = λ i. search rules in
     subst (λ t. OnOk c.wrote.result (Appends (g.W.Write.contents c.args.to.now) (g.W.Write.contents c.wrote.new.to) t))
-    (text_is c.args.q s _ text.new.out text.result c.follow-b.result bytes refl asked good c.follow-b.ensures text.ensures) c.wrote.ensures
+    (text_is c.args.q s _ text.new.out text.result c.follow-b.result bytes refl asked good c.follow-b.ensures text.ensures) c.wrote.ensures.ok

@@ -28,12 +28,12 @@ alone f All s asked e b = alone_as f All s b ∙ ap (λ (x : Form). counts_as x 
 alone f (Pair qq zz) s asked e b = alone_as f (Pair qq zz) s b ∙ ap (λ (x : Form). counts_as x (Pair qq zz) s) e
 alone f Unreadable s asked e b = absurd (asked refl)
 
-pub returns-in-BadField : goal.returns-in-BadField
-returns-in-BadField g c = λ asked.
+pub returns-in-BadField-clause-ok : goal.returns-in-BadField-clause-ok
+returns-in-BadField-clause-ok g c = λ asked.
     subst (λ t. OnOk c.refuse.result (Appends (g.W.Write.contents c.args.to.now) (g.W.Write.contents c.refuse.new.to) t))
-    (alone c.form_of-f.result c.args.q c.args.s.now asked c.form_of-f.ensures (ap is_bad c.in-BadField.is)) c.refuse.ensures
+    (alone c.form_of-f.result c.args.q c.args.s.now asked c.form_of-f.ensures (ap is_bad c.in-BadField.is)) c.refuse.ensures.ok
 
-pub returns-in-TooLong : goal.returns-in-TooLong
-returns-in-TooLong g c = λ asked.
+pub returns-in-TooLong-clause-ok : goal.returns-in-TooLong-clause-ok
+returns-in-TooLong-clause-ok g c = λ asked.
     subst (λ t. OnOk c.refuse-in-TooLong.result (Appends (g.W.Write.contents c.args.to.now) (g.W.Write.contents c.refuse-in-TooLong.new.to) t))
-    (alone c.form_of-f.result c.args.q c.args.s.now asked c.form_of-f.ensures (ap is_bad c.in-TooLong.is)) c.refuse-in-TooLong.ensures
+    (alone c.form_of-f.result c.args.q c.args.s.now asked c.form_of-f.ensures (ap is_bad c.in-TooLong.is)) c.refuse-in-TooLong.ensures.ok

@@ -46,6 +46,6 @@ loop-out-preserved g c =
       here.rest,
       here.fills,
       here.prints,
-      Appends-trans _ _ _ written now gained c.in_ok-wrote.ensures,
+      Appends-trans _ _ _ written now gained c.in_ok-wrote.ensures.ok,
       append_assoc written now here.rest ∙ ap (λ l. written ++ l) (sym here.split) ∙ whole,
     )

@@ -20,12 +20,12 @@ alone : (f : Form) (s : List ℕ) → f ≡ form_of s → is_good f ≡ false �
 unfolding values_output
 alone f s e b = alone_as f s b ∙ ap (λ (x : Form). output_of x s) e
 
-pub returns-in-BadField : goal.returns-in-BadField
-returns-in-BadField g c =
+pub returns-in-BadField-clause-ok : goal.returns-in-BadField-clause-ok
+returns-in-BadField-clause-ok g c =
     subst (λ t. OnOk c.refuse.result (Appends (g.W.Write.contents c.args.to.now) (g.W.Write.contents c.refuse.new.to) t))
-    (alone c.form_of-f.result c.args.s.now c.form_of-f.ensures (ap is_good c.in-BadField.is)) c.refuse.ensures
+    (alone c.form_of-f.result c.args.s.now c.form_of-f.ensures (ap is_good c.in-BadField.is)) c.refuse.ensures.ok
 
-pub returns-in-TooLong : goal.returns-in-TooLong
-returns-in-TooLong g c =
+pub returns-in-TooLong-clause-ok : goal.returns-in-TooLong-clause-ok
+returns-in-TooLong-clause-ok g c =
     subst (λ t. OnOk c.refuse-in-TooLong.result (Appends (g.W.Write.contents c.args.to.now) (g.W.Write.contents c.refuse-in-TooLong.new.to) t))
-    (alone c.form_of-f.result c.args.s.now c.form_of-f.ensures (ap is_good c.in-TooLong.is)) c.refuse-in-TooLong.ensures
+    (alone c.form_of-f.result c.args.s.now c.form_of-f.ensures (ap is_good c.in-TooLong.is)) c.refuse-in-TooLong.ensures.ok
