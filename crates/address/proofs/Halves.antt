@@ -2,25 +2,24 @@
 -- Assumes nothing.
 use Rattle.std.proofs.Common.{◌≡◌, ℕ, zero, suc, ◌<◌, Bool, true, T, ltb, ◌≢◌, refl, subst, arith, ltb→lt}
 use Rattle.address.specs.Half.{half_index, half_at, low_half, high_half, class_of, sub_of}
-use Rattle.address.specs.declared.Index.{Index}
-use Rattle.address.specs.declared.Index.TheVariants.{At, Nowhere}
+use Rattle.std.specs.Prelude.{Option, Some, None}
 use Rattle.laws.proofs.Computed.{below}
 
 -- the test that antt computes at the sixteen halves
-small : Index → Bool
-small (At i) = ltb i 5
-small Nowhere = true
+small : Option ℕ → Bool
+small (Some i) = ltb i 5
+small None = true
 
-pub half_below : (half i : ℕ) → half < 16 → half_index half ≡ At i → i < 5
+pub half_below : (half i : ℕ) → half < 16 → half_index half ≡ Some i → i < 5
 unfolding half_index small
 half_below half i h e =
-    ltb→lt i 5 (subst (λ (k : Index). T (small k)) e (below (λ k. small (half_index k)) 16 tt half h))
+    ltb→lt i 5 (subst (λ (k : Option ℕ). T (small k)) e (below (λ k. small (half_index k)) 16 tt half h))
 
-pub class_below : (a c : ℕ) → a < 256 → class_of a ≡ At c → c < 5
+pub class_below : (a c : ℕ) → a < 256 → class_of a ≡ Some c → c < 5
 unfolding class_of
 class_below a c h = half_below (low_half a) c (omega arith)
 
-pub sub_below : (a s : ℕ) → a < 256 → sub_of a ≡ At s → s < 5
+pub sub_below : (a s : ℕ) → a < 256 → sub_of a ≡ Some s → s < 5
 unfolding sub_of
 sub_below a s h = half_below (high_half a) s (omega arith)
 

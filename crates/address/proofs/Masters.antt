@@ -4,31 +4,28 @@ use Rattle.std.proofs.Common.{◌≡◌, ℕ, Bool, true, false, ◌&&◌, ◌�
 use mathlib.Core.Bool.{false≢true}
 use Rattle.address.specs.Half.{half_index, class_of, sub_of}
 use Rattle.address.specs.Master.{found, is_master, rank_at, rank_of}
-use Rattle.address.specs.declared.Index.{Index}
-use Rattle.address.specs.declared.Index.TheVariants.{At, Nowhere}
-use Rattle.address.specs.declared.Rank.{Rank}
-use Rattle.address.specs.declared.Rank.TheVariants.{Of, Nobody}
+use Rattle.std.specs.Prelude.{Option, Some, None}
 
-abbrev pub ranked : Rank → Bool
-ranked (Of r) = true
-ranked Nobody = false
+abbrev pub ranked : Option ℕ → Bool
+ranked (Some r) = true
+ranked None = false
 
-both_found : (c s : Index) → (found c && found s) ≡ ranked (rank_at c s)
-both_found (At c) (At s) = refl
-both_found (At c) Nowhere = refl
-both_found Nowhere s = refl
+both_found : (c s : Option ℕ) → (found c && found s) ≡ ranked (rank_at c s)
+both_found (Some c) (Some s) = refl
+both_found (Some c) None = refl
+both_found None s = refl
 
 -- the two ways to tell a master, by its halves and by its rank, agree
 pub master_ranked : (a : ℕ) → is_master a ≡ ranked (rank_of a)
 unfolding is_master rank_of class_of sub_of
 master_ranked a = both_found (class_of a) (sub_of a)
 
-some_rank : (k : Rank) → (ranked k ≡ true) ↔ ((r : ℕ) × (k ≡ Of r))
-some_rank (Of r) = (λ _. (r, refl), λ _. refl)
-some_rank Nobody = (λ e. absurd (false≢true e), λ p. ap ranked p.1)
+some_rank : (k : Option ℕ) → (ranked k ≡ true) ↔ ((r : ℕ) × (k ≡ Some r))
+some_rank (Some r) = (λ _. (r, refl), λ _. refl)
+some_rank None = (λ e. absurd (false≢true e), λ p. ap ranked p.1)
 
 -- an address is a master exactly when it has a rank
-pub master_exactly_when_ranked : (a : ℕ) → (is_master a ≡ true) ↔ ((r : ℕ) × (rank_of a ≡ Of r))
+pub master_exactly_when_ranked : (a : ℕ) → (is_master a ≡ true) ↔ ((r : ℕ) × (rank_of a ≡ Some r))
 master_exactly_when_ranked a =
     let i = some_rank (rank_of a) in
     let e = master_ranked a in

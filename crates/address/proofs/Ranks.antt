@@ -4,26 +4,23 @@ use Rattle.std.proofs.Common.{◌≡◌, ℕ, ◌+◌, ◌*◌, ◌/◌, ◌%◌
 use mathlib.Core.Bool.{false≢true}
 use Rattle.address.specs.Half.{half_index, class_of, sub_of}
 use Rattle.address.specs.Master.{rank_at, rank_of, master_at}
-use Rattle.address.specs.declared.Index.{Index}
-use Rattle.address.specs.declared.Index.TheVariants.{At, Nowhere}
-use Rattle.address.specs.declared.Rank.{Rank}
-use Rattle.address.specs.declared.Rank.TheVariants.{Of, Nobody}
+use Rattle.std.specs.Prelude.{Option, Some, None}
 use Rattle.laws.proofs.Computed.{below, same}
 use Rattle.address.proofs.Halves.{half_at_below, class_below, sub_below}
 use Rattle.address.proofs.Masters.{ranked}
 
 -- a rank as a number: below 25 where there is one, and 25 for nobody's
-place : Rank → ℕ
-place (Of r) = r
-place Nobody = 25
+place : Option ℕ → ℕ
+place (Some r) = r
+place None = 25
 
-place_is : (k : Rank) (r : ℕ) → r < 25 → place k ≡ r → k ≡ Of r
+place_is : (k : Option ℕ) (r : ℕ) → r < 25 → place k ≡ r → k ≡ Some r
 unfolding place
-place_is (Of x) r h e = ap Of e
-place_is Nobody r h e = absurd (omega arith)
+place_is (Some x) r h e = ap Some e
+place_is None r h e = absurd (omega arith)
 
 -- every rank from 0 to 24 is some master's
-pub rank_taken : (r : ℕ) → r < 25 → (master_at r < 256) × (rank_of (master_at r) ≡ Of r)
+pub rank_taken : (r : ℕ) → r < 25 → (master_at r < 256) × (rank_of (master_at r) ≡ Some r)
 unfolding place master_at rank_of class_of sub_of half_index
 rank_taken r h = (
   ltb→lt (master_at r) 256 (below (λ r. ltb (master_at r) 256) 25 tt r h),
@@ -36,48 +33,48 @@ unfolding master_at
 master_at_byte r = omega (arith, half_at_below (r % 5), half_at_below (r / 5))
 
 -- the master of an address's rank, and the address itself where it has none
-returned : Rank → ℕ → ℕ
-returned (Of r) a = master_at r
-returned Nobody a = a
+returned : Option ℕ → ℕ → ℕ
+returned (Some r) a = master_at r
+returned None a = a
 
 -- a rank says whose it is
-pub master_of_rank : (a r : ℕ) → a < 256 → rank_of a ≡ Of r → master_at r ≡ a
+pub master_of_rank : (a r : ℕ) → a < 256 → rank_of a ≡ Some r → master_at r ≡ a
 unfolding returned master_at rank_of class_of sub_of half_index
 master_of_rank a r h e =
     sym (ap (λ k. returned k a) e) ∙ same (λ a. returned (rank_of a) a) (λ a. a) 256 tt a h
 
 -- two masters with the same rank are the same
-pub ranks_distinct : (a b r : ℕ) → a < 256 → b < 256 → rank_of a ≡ Of r → rank_of b ≡ Of r → a ≡ b
+pub ranks_distinct : (a b r : ℕ) → a < 256 → b < 256 → rank_of a ≡ Some r → rank_of b ≡ Some r → a ≡ b
 ranks_distinct a b r ha hb ea eb = sym (master_of_rank a r ha ea) ∙ master_of_rank b r hb eb
 
 -- what is known of a master: the address is a byte, its rank, and the indexes of its class and sub-address
 pub record Placed (a r c s : ℕ) : Type 0 where
   pub byte : a < 256
-  pub rank : rank_of a ≡ Of r
-  pub class : class_of a ≡ At c
-  pub sub : sub_of a ≡ At s
+  pub rank : rank_of a ≡ Some r
+  pub class : class_of a ≡ Some c
+  pub sub : sub_of a ≡ Some s
 
 -- the rank is five for each class before, and one for each sub-address before
 pub rank_sum : {a r c s : ℕ} → Placed a r c s → r ≡ 5 * c + s
 unfolding rank_of
 rank_sum {r = r} {c = c} {s = s} p =
-    let e : Of (5 * c + s) ≡ Of r = simp (p.class, p.sub) at p.rank in
+    let e : Some (5 * c + s) ≡ Some r = simp (p.class, p.sub) at p.rank in
     cc
 
-indexes : (i j : Index) (r : ℕ) → rank_at i j ≡ Of r → (c : ℕ) × (s : ℕ) × (i ≡ At c) × (j ≡ At s)
-indexes (At c) (At s) r e = (c, s, refl, refl)
-indexes (At c) Nowhere r e = absurd (false≢true (ap ranked e))
-indexes Nowhere j r e = absurd (false≢true (ap ranked e))
+indexes : (i j : Option ℕ) (r : ℕ) → rank_at i j ≡ Some r → (c : ℕ) × (s : ℕ) × (i ≡ Some c) × (j ≡ Some s)
+indexes (Some c) (Some s) r e = (c, s, refl, refl)
+indexes (Some c) None r e = absurd (false≢true (ap ranked e))
+indexes None j r e = absurd (false≢true (ap ranked e))
 
 -- what has a rank has a class and a sub-address
-pub placed : (a r : ℕ) → a < 256 → rank_of a ≡ Of r → (c : ℕ) × (s : ℕ) × Placed a r c s
+pub placed : (a r : ℕ) → a < 256 → rank_of a ≡ Some r → (c : ℕ) × (s : ℕ) × Placed a r c s
 unfolding rank_of
 placed a r h e =
     let i = indexes (class_of a) (sub_of a) r e in
     (i.0, i.1, record { byte = h; rank = e; class = i.2; sub = i.3 })
 
 -- ranks are below 25
-pub rank_below : (a r : ℕ) → a < 256 → rank_of a ≡ Of r → r < 25
+pub rank_below : (a r : ℕ) → a < 256 → rank_of a ≡ Some r → r < 25
 rank_below a r h e =
     let p = placed a r h e in
     omega (arith, rank_sum p.2, class_below a p.0 h p.2.class, sub_below a p.1 h p.2.sub)
@@ -94,6 +91,6 @@ ranks_order {a} {r} {c} {s} {b} {q} {d} {t} x y =
     rw (rank_sum x, rank_sum y) (ordered c s d t (sub_below a s x.byte x.sub) (sub_below b t y.byte y.sub))
 
 -- 10 ranks before 01: 1 is below 5
-pub ten_before_one : (rank_of 0x10 ≡ Of 1) × (rank_of 0x01 ≡ Of 5)
+pub ten_before_one : (rank_of 0x10 ≡ Some 1) × (rank_of 0x01 ≡ Some 5)
 unfolding rank_of class_of sub_of half_index
 ten_before_one = (refl, refl)

@@ -2,14 +2,11 @@
 -- Assumes nothing.
 use Rattle.std.specs.Prelude.{ℕ, ◌+◌, ◌*◌, ◌/◌, ◌%◌, Bool, true, false, ◌&&◌}
 use Rattle.address.specs.Half.{half_index, half_at, low_half, high_half, class_of, sub_of}
-use Rattle.address.specs.declared.Index.{Index}
-use Rattle.address.specs.declared.Index.TheVariants.{At, Nowhere}
-use Rattle.address.specs.declared.Rank.{Rank}
-use Rattle.address.specs.declared.Rank.TheVariants.{Of, Nobody}
+use Rattle.std.specs.Prelude.{Option, Some, None}
 
-abbrev pub found : Index → Bool
-found (At i) = true
-found Nowhere = false
+abbrev pub found : Option ℕ → Bool
+found (Some i) = true
+found None = false
 
 abbrev pub in_row : ℕ → Bool
 in_row half = found (half_index half)
@@ -23,13 +20,13 @@ unfoldable pub slave_of : ℕ → ℕ
 slave_of m = (m + 5) % 256
 
 -- the rank from the indexes of class and sub-address, where both have one
-abbrev pub rank_at : Index → Index → Rank
-rank_at (At c) (At s) = Of (5 * c + s)
-rank_at (At c) Nowhere = Nobody
-rank_at Nowhere s = Nobody
+abbrev pub rank_at : Option ℕ → Option ℕ → Option ℕ
+rank_at (Some c) (Some s) = Some (5 * c + s)
+rank_at (Some c) None = None
+rank_at None s = None
 
 -- class first, then sub-address, both rising
-unfoldable pub rank_of : ℕ → Rank
+unfoldable pub rank_of : ℕ → Option ℕ
 rank_of a = rank_at (class_of a) (sub_of a)
 
 -- the master of a rank below 25: its class index is r / 5, its sub-address index r % 5

@@ -6,20 +6,6 @@ ghost use Rattle.address.specs.Half.{half_index, half_at, class_of, sub_of};
 ghost use Rattle.address.specs.Master.{rank_of, master_at, is_master, slave_of};
 ghost use Rattle.address.specs.Role.{role_of};
 
-// The place of a half in the row 0, 1, 3, 7, F.
-#[derive(Clone, Copy)]
-pub enum Index {
-    At(u8),
-    Nowhere,
-}
-
-// The rank of a master, 0 to 24; no other address has one.
-#[derive(Clone, Copy)]
-pub enum Rank {
-    Of(u8),
-    Nobody,
-}
-
 // What an address is used for; Never: AA and A9, which mean something else on the wire.
 #[derive(Clone, Copy)]
 pub enum Role {
@@ -31,16 +17,16 @@ pub enum Role {
 
 // The row stands here and, the other way round, in `half_at`, and nowhere else in the code.
 #[tactic(auto, unfolding(crate::specs::Half::half_index))]
-pub fn half_index(half: u8) -> Index
+pub fn half_index(half: u8) -> Option<u8>
     ensures { result ≡ half_index half }
 {
     match half {
-        0x0 => Index::At(0),
-        0x1 => Index::At(1),
-        0x3 => Index::At(2),
-        0x7 => Index::At(3),
-        0xF => Index::At(4),
-        _ => Index::Nowhere,
+        0x0 => Some(0),
+        0x1 => Some(1),
+        0x3 => Some(2),
+        0x7 => Some(3),
+        0xF => Some(4),
+        _ => None,
     }
 }
 
@@ -59,33 +45,33 @@ fn half_at(index: u32) -> u8
 }
 
 // The low half is the priority class.
-pub fn class_of(address: u8) -> Index
+#[tactic(auto, unfolding(crate::specs::Half::class_of))]
+pub fn class_of(address: u8) -> Option<u8>
     ensures { result ≡ class_of address }
 {
     half_index(address % 16)
 }
 
 // The high half is the sub-address.
-pub fn sub_of(address: u8) -> Index
+#[tactic(auto, unfolding(crate::specs::Half::sub_of))]
+pub fn sub_of(address: u8) -> Option<u8>
     ensures { result ≡ sub_of address }
 {
     half_index(address / 16)
 }
 
 // Class first, then sub-address, so the class weighs five sub-addresses.
-pub fn rank_of(address: u8) -> Rank
+#[tactic(auto, using(crate::proofs::Halves::class_below, crate::proofs::Halves::sub_below), unfolding(crate::specs::Master::rank_of))]
+pub fn rank_of(address: u8) -> Option<u8>
     ensures { result ≡ rank_of address }
 {
-    let Index::At(class) = class_of(address) else {
-        return Rank::Nobody;
-    };
-    let Index::At(sub) = sub_of(address) else {
-        return Rank::Nobody;
-    };
-    Rank::Of(5 * class + sub)
+    let class = class_of(address)?;
+    let sub = sub_of(address)?;
+    Some(5 * class + sub)
 }
 
 // The master of a rank, the way back from `rank_of`.
+#[tactic(auto, unfolding(crate::specs::Master::master_at))]
 pub fn master_at(rank: u32) -> u8
     ensures { result ≡ master_at rank }
 {
@@ -93,13 +79,11 @@ pub fn master_at(rank: u32) -> u8
 }
 
 // An address whose halves are both in the row has a rank, and no other has.
+#[tactic(auto, using(crate::proofs::Masters::master_ranked))]
 pub fn is_master(address: u8) -> bool
     ensures { result ≡ is_master address }
 {
-    match rank_of(address) {
-        Rank::Of(_) => true,
-        Rank::Nobody => false,
-    }
+    rank_of(address).is_some()
 }
 
 // The address at which a master also answers; the sum wraps at FF alone of the masters.
@@ -107,7 +91,7 @@ pub fn is_master(address: u8) -> bool
 pub fn slave_of(master: u8) -> u8
     ensures { result ≡ slave_of master }
 {
-    std::num::wrapping_add_u8(master, 5)
+    master.wrapping_add(5)
 }
 
 // What is neither a master nor one of the three exceptions is a slave.
@@ -115,10 +99,8 @@ pub fn slave_of(master: u8) -> u8
 pub fn role_of(address: u8) -> Role
     ensures { result ≡ role_of address }
 {
-    if is_master(address) {
-        return Role::Master;
-    }
     match address {
+        _ if is_master(address) => Role::Master,
         0xFE => Role::Broadcast,
         0xAA | 0xA9 => Role::Never,
         _ => Role::Slave,

@@ -1,8 +1,7 @@
 -- A call that is done changes only what it says. Assumes nothing.
 use Rattle.std.proofs.Common.{◌≡◌, ℕ, ◌+◌, ◌<◌, Bool, true, false, cond, ltb, ◌≢◌, List, length, set, refl, ap, ◌∙◌, subst, get_or-set_other, ltb-true}
 use mathlib.Core.Bool.{false≢true}
-use Rattle.laws.specs.declared.Found.{Found}
-use Rattle.laws.specs.declared.Found.TheVariants.{At, Missing}
+use Rattle.std.specs.Prelude.{Option, Some, None}
 use Rattle.wire.specs.Load.{load_of}
 use Rattle.wire.specs.declared.part.Telegram.{Telegram}
 use Rattle.station.specs.Outbox.{accepted}
@@ -13,11 +12,10 @@ use Rattle.station.specs.declared.replies.Reply.{Reply}
 use Rattle.station.specs.declared.replies.ReplyBook.{ReplyBook}
 use Rattle.station.specs.declared.station.Turn.{Turn}
 use Rattle.bus.specs.declared.bus.Bus.{Bus}
-use Rattle.bus.specs.declared.bus.Answer.{Answer}
+use Rattle.bus.specs.Bus.{Answer}
 use Rattle.bus.specs.declared.find.Query.TheVariants.{Master, Slave}
 use Rattle.bus.specs.declared.refusal.Refusal.{Refusal}
-use Rattle.bus.specs.declared.refusal.Verdict.{Verdict}
-use Rattle.bus.specs.declared.refusal.Verdict.TheVariants.{Done, Refused}
+use Rattle.std.specs.Prelude.{Result, Ok, Err, ⊤}
 use Rattle.bus.specs.Attach.{newcomer, no_such_address, occupied, takes_seat, attaches}
 use Rattle.bus.specs.Bus.{seats, unseated, attached_to, attached_turns, turn_at, with_bits, with_turn, refused_by, done}
 use Rattle.bus.specs.Conditions.{First, MasterAt, SlaveAt}
@@ -29,22 +27,22 @@ use Rattle.bus.proofs.Reflects.{first_holds}
 use Rattle.bus.proofs.RefusedQueue.{found_attached, turn_found, master_reflects}
 use Rattle.bus.proofs.RefusedReply.{slave_reflects}
 
-abbrev is_done : Verdict → Bool
-is_done Done = true
-is_done (Refused r) = false
+abbrev is_done : Result ⊤ Refusal → Bool
+is_done (Ok tt) = true
+is_done (Err r) = false
 
-not_done : {A : Type 0} (b : Bus) (r : Refusal) → (refused_by b r).verdict ≡ Done → A
+not_done : {A : Type 0} (b : Bus) (r : Refusal) → (refused_by b r).verdict ≡ Ok tt → A
 unfolding refused_by
 not_done b r e = absurd (false≢true (ap is_done e))
 
 -- a line of the table that does not hold is passed
-passed : (t : Bool) (b : Bus) (r : Refusal) (y : Answer) → (cond t (refused_by b r) y).verdict ≡ Done
-    → (y.verdict ≡ Done) × ((cond t (refused_by b r) y).bus ≡ y.bus)
+passed : (t : Bool) (b : Bus) (r : Refusal) (y : Answer) → (cond t (refused_by b r) y).verdict ≡ Ok tt
+    → (y.verdict ≡ Ok tt) × ((cond t (refused_by b r) y).bus ≡ y.bus)
 passed true b r y e = not_done b r e
 passed false b r y e = (e, refl)
 
 -- the last line, which is not given where its test passes
-taken_last : (t : Bool) (b c : Bus) (r : Refusal) → (cond t (done c) (refused_by b r)).verdict ≡ Done
+taken_last : (t : Bool) (b c : Bus) (r : Refusal) → (cond t (done c) (refused_by b r)).verdict ≡ Ok tt
     → (t ≡ true) × ((cond t (done c) (refused_by b r)).bus ≡ c)
 unfolding done
 taken_last true b c r e = (refl, refl)
@@ -63,7 +61,7 @@ pub record Seated (b : Bus) (a : ℕ) (master : Bool) (c : Bus) : Type 0 where
   pub began : c.began ≡ b.began
   pub waiting : c.waiting ≡ b.waiting
 
-pub attach_done : (b : Bus) (a : ℕ) (master : Bool) → (attaches b a master).verdict ≡ Done → Seated b a master (attaches b a master).bus
+pub attach_done : (b : Bus) (a : ℕ) (master : Bool) → (attaches b a master).verdict ≡ Ok tt → Seated b a master (attaches b a master).bus
 unfolding attaches takes_seat
 attach_done b a master e =
     let p = passed b.ran b _ _ e in
@@ -124,7 +122,7 @@ pub record Queued (b : Bus) (qq : ℕ) (t : Telegram) (c : Bus) : Type 0 where
   pub changed : OneTurn b place (holding (turn_at b place) (accepted (turn_at b place).station.outbox t).outbox) c
   pub waits : c.waiting ≡ with_bid b.waiting (holding (turn_at b place) (accepted (turn_at b place).station.outbox t).outbox)
 
-pub queue_done : (b : Bus) (qq zz pb sb : ℕ) (bytes : List ℕ) → (queues b qq zz pb sb bytes).verdict ≡ Done
+pub queue_done : (b : Bus) (qq zz pb sb : ℕ) (bytes : List ℕ) → (queues b qq zz pb sb bytes).verdict ≡ Ok tt
     → Queued b qq (record { qq = qq; zz = zz; pb = pb; sb = sb; load = load_of bytes }) (queues b qq zz pb sb bytes).bus
 unfolding queues queues_from holds
 queue_done b qq zz pb sb bytes e = go (first_of b (Master qq)) refl e
@@ -132,9 +130,9 @@ queue_done b qq zz pb sb bytes e = go (first_of b (Master qq)) refl e
     telegram : ℕ → Telegram
     telegram a = record { qq = a; zz = zz; pb = pb; sb = sb; load = load_of bytes }
 
-    go : (f : Found) → first_of b (Master qq) ≡ f → (queues_at f b zz pb sb bytes).verdict ≡ Done
+    go : (f : Option ℕ) → first_of b (Master qq) ≡ f → (queues_at f b zz pb sb bytes).verdict ≡ Ok tt
         → Queued b qq (telegram qq) (queues_at f b zz pb sb bytes).bus
-    go (At i) found e =
+    go (Some i) found e =
         let source = turn_found (MasterAt qq) (Master qq) (master_reflects qq) b i found in
         let own = (first_holds source).1 in
         let p = passed (no_target (turn_at b i).station zz) b _ _ e in
@@ -151,7 +149,7 @@ queue_done b qq zz pb sb bytes e = go (first_of b (Master qq)) refl e
           changed = one_turn b _ i _ _ same;
           waits = ap (λ (x : Bus). x.waiting) same;
         }
-    go Missing found e = not_done b _ e
+    go None found e = not_done b _ e
 
 -- the slave, at place i, has the reply in its book; everything else is as it was
 pub record Replied (b : Bus) (slave : ℕ) (r : Reply) (c : Bus) : Type 0 where
@@ -162,7 +160,7 @@ pub record Replied (b : Bus) (slave : ℕ) (r : Reply) (c : Bus) : Type 0 where
   pub changed : OneTurn b place (answering (turn_at b place) (written (turn_at b place).station.replies r).book) c
   pub waits : c.waiting ≡ b.waiting
 
-pub reply_done : (b : Bus) (slave pb sb : ℕ) (bytes : List ℕ) → (replies b slave pb sb bytes).verdict ≡ Done
+pub reply_done : (b : Bus) (slave pb sb : ℕ) (bytes : List ℕ) → (replies b slave pb sb bytes).verdict ≡ Ok tt
     → Replied b slave (record { pb = pb; sb = sb; load = load_of bytes }) (replies b slave pb sb bytes).bus
 unfolding replies replies_from writes with_turn
 reply_done b slave pb sb bytes e = go (first_of b (Slave slave)) refl e
@@ -170,9 +168,9 @@ reply_done b slave pb sb bytes e = go (first_of b (Slave slave)) refl e
     given : Reply
     given = record { pb = pb; sb = sb; load = load_of bytes }
 
-    go : (f : Found) → first_of b (Slave slave) ≡ f → (replies_at f b pb sb bytes).verdict ≡ Done
+    go : (f : Option ℕ) → first_of b (Slave slave) ≡ f → (replies_at f b pb sb bytes).verdict ≡ Ok tt
         → Replied b slave given (replies_at f b pb sb bytes).bus
-    go (At i) found e =
+    go (Some i) found e =
         let p = passed (no_command pb sb) b _ _ e in
         let q = passed (ltb 16 (length bytes)) b _ _ p.0 in
         let t = taken_last (written (turn_at b i).station.replies given).taken b _ _ q.0 in
@@ -184,4 +182,4 @@ reply_done b slave pb sb bytes e = go (first_of b (Slave slave)) refl e
           changed = one_turn b _ i _ _ (p.1 ∙ q.1 ∙ t.1);
           waits = ap (λ (x : Bus). x.waiting) (p.1 ∙ q.1 ∙ t.1);
         }
-    go Missing found e = not_done b _ e
+    go None found e = not_done b _ e

@@ -1,8 +1,7 @@
 -- A bus whose stations were told nothing has no events, and only such a bus. Assumes nothing.
 use Rattle.std.proofs.Common.{◌≡◌, Bool, true, false, ◌↔◌, List, [], ◌∷◌, ◌++◌, map, length, refl, ap, true≢false, arith}
 use Rattle.laws.specs.First.{is_found}
-use Rattle.laws.specs.declared.Found.{Found}
-use Rattle.laws.specs.declared.Found.TheVariants.{At, Missing}
+use Rattle.std.specs.Prelude.{Option, Some, None, ℕ}
 use Rattle.station.specs.Events.{Event, tells, events_as}
 use Rattle.station.specs.declared.phase.Told.{Told}
 use Rattle.station.specs.declared.phase.Told.TheVariants.{Silence, Owns, Taken, Failed, Free, FailedFree, Given, Answered}
@@ -68,9 +67,9 @@ nobody_told (t ∷ l) p q =
     let f = nil_parts (those true (tells t)) (lines_of true l) q in
     next (untold t e.0 f.0) (nobody_told l e.1 f.1)
 
-pub missing : (f : Found) → is_found f ≡ false → f ≡ Missing
-missing (At i) e = absurd (true≢false e)
-missing Missing e = refl
+pub missing : (f : Option ℕ) → is_found f ≡ false → f ≡ None
+missing (Some i) e = absurd (true≢false e)
+missing None e = refl
 
 map_nil : {A B : Type 0} (f : A → B) (l : List A) → map f l ≡ [] → l ≡ []
 map_nil f [] e = refl

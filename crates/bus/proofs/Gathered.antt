@@ -9,14 +9,14 @@ use Rattle.station.specs.Admission.{bids}
 use Rattle.station.specs.Outbox.{held_in, accepted, queue_depth}
 use Rattle.station.specs.Replies.{written}
 use Rattle.station.specs.Station.{fresh}
-use Rattle.station.specs.declared.outbox.Accepted.{Accepted}
+use Rattle.station.specs.Outbox.{Accepted}
 use Rattle.station.specs.declared.outbox.Outbox.{Outbox}
 use Rattle.station.specs.declared.phase.Sound.{Sound}
 use Rattle.station.specs.declared.replies.Reply.{Reply}
 use Rattle.station.specs.declared.station.Turn.{Turn}
 use Rattle.bus.specs.declared.bus.Bus.{Bus}
-use Rattle.bus.specs.declared.refusal.Verdict.{Verdict}
-use Rattle.bus.specs.declared.refusal.Verdict.TheVariants.{Done, Refused}
+use Rattle.std.specs.Prelude.{Result, Ok, Err, ⊤}
+use Rattle.bus.specs.declared.refusal.Refusal.{Refusal}
 use Rattle.bus.specs.Attach.{newcomer, attaches}
 use Rattle.bus.specs.Bus.{seats, unseated, powered_on, attached_to, turn_at}
 use Rattle.bus.specs.Queue.{queues}
@@ -145,9 +145,9 @@ module _ (b : Bus) (whole : length b.turns ≡ seats) (kept : Gathered b) where
   pub attach_gathered : (a : ℕ) (m : Bool) → Gathered (attaches b a m).bus
   attach_gathered a m = go (attaches b a m).verdict refl
     where
-      go : (v : Verdict) → (attaches b a m).verdict ≡ v → Gathered (attaches b a m).bus
-      go Done e = seated_gathered a m (attaches b a m).bus (attach_done b a m e)
-      go (Refused r) e = rw (attach_refused b a m r e) kept
+      go : (v : Result ⊤ Refusal) → (attaches b a m).verdict ≡ v → Gathered (attaches b a m).bus
+      go (Ok tt) e = seated_gathered a m (attaches b a m).bus (attach_done b a m e)
+      go (Err r) e = rw (attach_refused b a m r e) kept
 
   queued_gathered : (qq : ℕ) (t : Telegram) (c : Bus) → Queued b qq t c → Gathered c
   unfolding gathered turn_at
@@ -164,9 +164,9 @@ module _ (b : Bus) (whole : length b.turns ≡ seats) (kept : Gathered b) where
   pub queue_gathered : (qq zz pb sb : ℕ) (bytes : List ℕ) → Gathered (queues b qq zz pb sb bytes).bus
   queue_gathered qq zz pb sb bytes = go (queues b qq zz pb sb bytes).verdict refl
     where
-      go : (v : Verdict) → (queues b qq zz pb sb bytes).verdict ≡ v → Gathered (queues b qq zz pb sb bytes).bus
-      go Done e = queued_gathered qq _ (queues b qq zz pb sb bytes).bus (queue_done b qq zz pb sb bytes e)
-      go (Refused r) e = rw (queue_refused b qq zz pb sb bytes r e) kept
+      go : (v : Result ⊤ Refusal) → (queues b qq zz pb sb bytes).verdict ≡ v → Gathered (queues b qq zz pb sb bytes).bus
+      go (Ok tt) e = queued_gathered qq _ (queues b qq zz pb sb bytes).bus (queue_done b qq zz pb sb bytes e)
+      go (Err r) e = rw (queue_refused b qq zz pb sb bytes r e) kept
 
   replied_gathered : (a : ℕ) (r : Reply) (c : Bus) → Replied b a r c → Gathered c
   unfolding gathered turn_at with_bid bids
@@ -182,6 +182,6 @@ module _ (b : Bus) (whole : length b.turns ≡ seats) (kept : Gathered b) where
   pub reply_gathered : (a pb sb : ℕ) (bytes : List ℕ) → Gathered (replies b a pb sb bytes).bus
   reply_gathered a pb sb bytes = go (replies b a pb sb bytes).verdict refl
     where
-      go : (v : Verdict) → (replies b a pb sb bytes).verdict ≡ v → Gathered (replies b a pb sb bytes).bus
-      go Done e = replied_gathered a _ (replies b a pb sb bytes).bus (reply_done b a pb sb bytes e)
-      go (Refused r) e = rw (reply_refused b a pb sb bytes r e) kept
+      go : (v : Result ⊤ Refusal) → (replies b a pb sb bytes).verdict ≡ v → Gathered (replies b a pb sb bytes).bus
+      go (Ok tt) e = replied_gathered a _ (replies b a pb sb bytes).bus (reply_done b a pb sb bytes e)
+      go (Err r) e = rw (reply_refused b a pb sb bytes r e) kept

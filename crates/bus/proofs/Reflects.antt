@@ -2,8 +2,8 @@
 use Rattle.std.proofs.Common.{◌≡◌, ℕ, zero, suc, ◌<◌, Bool, true, false, cond, eqb, ltb, ◌≢◌, ◌⊎◌, ◌↔◌, List, [], ◌∷◌, length, get_or, sym, refl, ◌∙◌, inl, inr, ⊎_elim, true≢false, arith, ltb-true, lt-ltb, eq-eqb, eqb-true}
 use mathlib.Core.Bool.{false≢true}
 use Rattle.laws.specs.First.{first_from, is_found}
-use Rattle.laws.specs.declared.Found.TheVariants.{At}
-use Rattle.bus.specs.declared.bus.Answer.{Answer}
+use Rattle.std.specs.Prelude.{Some}
+use Rattle.bus.specs.Bus.{Answer}
 use Rattle.bus.specs.Conditions.{number_given, Any, here, there, First, first, later, Unless}
 use Rattle.laws.proofs.FirstIs.{FoundAt}
 
@@ -92,7 +92,7 @@ module _ {A : Type 0} (P : A → Type 0) (test : A → Bool) (r : (a : A) → Re
   search_reflects i (a ∷ l) = go (test a) (r a) (search_reflects (suc i) l)
     where
       go : (t : Bool) → Reflects t (P a) → Reflects (is_found (first_from test (suc i) l)) (Any P l)
-          → Reflects (is_found (cond t (At i) (first_from test (suc i) l))) (Any P (a ∷ l))
+          → Reflects (is_found (cond t (Some i) (first_from test (suc i) l))) (Any P (a ∷ l))
       go true q on = (λ e. here (q.0 refl), λ s. refl)
       go false q on = (λ e. there (on.0 e), λ s. on.1 (any_tail (refuses false q refl) s))
 

@@ -2,8 +2,7 @@
 use Rattle.std.proofs.Common.{◌≡◌, ℕ, ◌<◌, ◌≤◌, Bool, true, false, cond, ◌||◌, eqb, ltb, ◌≢◌, ◌⊎◌, ◌↔◌, List, [], ◌∷◌, length, sym, refl, ap, ◌∙◌, inl, inr, ⊎_elim, true≢false, arith, length-take, get_or-take, ltb-false, ltb-true, eqb-true}
 use mathlib.Core.Bool.{false≢true}
 use Rattle.laws.specs.First.{is_found}
-use Rattle.laws.specs.declared.Found.{Found}
-use Rattle.laws.specs.declared.Found.TheVariants.{At, Missing}
+use Rattle.std.specs.Prelude.{Option, Some, None}
 use Rattle.address.specs.Half.{half_index}
 use Rattle.address.specs.Role.{role_of}
 use Rattle.address.specs.Master.{is_master, slave_of}
@@ -17,7 +16,8 @@ use Rattle.station.specs.declared.station.Turn.{Turn}
 use Rattle.bus.specs.declared.bus.Bus.{Bus}
 use Rattle.bus.specs.declared.find.Query.{Query}
 use Rattle.bus.specs.declared.find.Query.TheVariants.{Master}
-use Rattle.bus.specs.Bus.{unseated, attached_to, attached_turns, turn_at, refused_by, done}
+use Rattle.bus.proofs.Loops.{attached_fit}
+use Rattle.bus.specs.Bus.{seats, unseated, attached_to, attached_turns, turn_at, refused_by, done}
 use Rattle.bus.specs.Conditions.{number_given, Any, here, there, OneOf, First, Unless, MasterAt, NoSource, Forbidden, WrongTarget, WrongCommand, MuchData, QueueFull}
 use Rattle.bus.specs.Find.{is_master_at, meets, first_of}
 use Rattle.bus.specs.Queue.{is_never, unusable, no_target, no_command, holds, queues_from, queues_at, queues}
@@ -73,13 +73,16 @@ full o t = go (ltb o.held queue_depth) refl
 
 -- ---- the station found
 
-pub found_attached : (q : Query) (b : Bus) (i : ℕ) → first_of b q ≡ At i → i < attached_to b
+pub found_attached : (q : Query) (b : Bus) (i : ℕ) → first_of b q ≡ Some i → i < attached_to b
 unfolding first_of
 found_attached q b i e =
     let f = found_at (meets q) unseated i (attached_turns b) e in
     omega (arith, f.within, length-take (attached_to b) b.turns)
 
-pub turn_found : (P : Turn → Type 0) (q : Query) → ((t : Turn) → Reflects (meets q t) (P t)) → (b : Bus) (i : ℕ) → first_of b q ≡ At i
+pub found_seat : (q : Query) (b : Bus) (i : ℕ) → first_of b q ≡ Some i → i < seats
+found_seat q b i e = omega (arith, attached_fit b, found_attached q b i e)
+
+pub turn_found : (P : Turn → Type 0) (q : Query) → ((t : Turn) → Reflects (meets q t) (P t)) → (b : Bus) (i : ℕ) → first_of b q ≡ Some i
     → First P (turn_at b i) (attached_turns b)
 unfolding first_of turn_at
 turn_found P q r b i e =
@@ -123,9 +126,9 @@ module _ (b : Bus) (qq zz pb sb : ℕ) (bytes : List ℕ) where
   unfolding queues refused_by
   refused_1 = go (first_of b (Master qq)) refl (someone (MasterAt qq) (Master qq) (master_reflects qq) b)
     where
-      go : (f : Found) → first_of b (Master qq) ≡ f → Reflects (is_found (first_of b (Master qq))) (Any (MasterAt qq) (attached_turns b))
+      go : (f : Option ℕ) → first_of b (Master qq) ≡ f → Reflects (is_found (first_of b (Master qq))) (Any (MasterAt qq) (attached_turns b))
           → (number_given (queues_at f b zz pb sb bytes) ≡ 1) ↔ NoSource b qq
-      go (At i) e r = (
+      go (Some i) e r = (
         λ n. absurd
             (not_number (no_target (turn_at b i).station zz) 2 _ 1 (omega arith)
             (not_number (no_command pb sb) 3 _ 1 (omega arith)
@@ -134,7 +137,7 @@ module _ (b : Bus) (qq zz pb sb : ℕ) (bytes : List ℕ) where
             (sym (queue_number i) ∙ n)),
         λ n. absurd (n (r.0 (ap is_found e))),
       )
-      go Missing e r = (λ n. refuses _ r (ap is_found e), λ n. refl)
+      go None e r = (λ n. refuses _ r (ap is_found e), λ n. refl)
 
   -- a later line: there is a source, and the line is given for it
   after_source : {D : Type 0} (n : ℕ) → 1 ≢ n
@@ -143,12 +146,12 @@ module _ (b : Bus) (qq zz pb sb : ℕ) (bytes : List ℕ) where
   unfolding queues refused_by
   after_source {D} n h on = go (first_of b (Master qq)) refl (someone (MasterAt qq) (Master qq) (master_reflects qq) b)
     where
-      go : (f : Found) → first_of b (Master qq) ≡ f → Reflects (is_found (first_of b (Master qq))) (Any (MasterAt qq) (attached_turns b))
+      go : (f : Option ℕ) → first_of b (Master qq) ≡ f → Reflects (is_found (first_of b (Master qq))) (Any (MasterAt qq) (attached_turns b))
           → (number_given (queues_at f b zz pb sb bytes) ≡ n) ↔ Unless (NoSource b qq) D
-      go (At i) e r =
+      go (Some i) e r =
           let p = on i (turn_found (MasterAt qq) (Master qq) (master_reflects qq) b i e) in
           (λ g. (λ none. none (r.0 (ap is_found e)), p.0 (sym (queue_number i) ∙ g)), λ u. queue_number i ∙ p.1 u.1)
-      go Missing e r = (λ g. absurd (h g), λ u. absurd (u.0 (refuses _ r (ap is_found e))))
+      go None e r = (λ g. absurd (h g), λ u. absurd (u.0 (refuses _ r (ap is_found e))))
 
   -- 2: ZZ is A9, AA, or the source's own master or slave address
   pub refused_2 : (given ≡ 2) ↔ Unless (NoSource b qq) (WrongTarget qq zz)
@@ -223,6 +226,6 @@ module _ (b : Bus) (qq zz pb sb : ℕ) (bytes : List ℕ) where
   unfolding queues refused_by
   queue_own_numbers = go (first_of b (Master qq))
     where
-      go : (f : Found) → Own (number_given (queues_at f b zz pb sb bytes))
-      go (At i) = rw (queue_number i) (own_lines i)
-      go Missing = there (here refl)
+      go : (f : Option ℕ) → Own (number_given (queues_at f b zz pb sb bytes))
+      go (Some i) = rw (queue_number i) (own_lines i)
+      go None = there (here refl)

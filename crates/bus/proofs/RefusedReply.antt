@@ -3,8 +3,7 @@
 use Rattle.std.proofs.Common.{◌≡◌, ℕ, suc, ◌≤◌, Bool, true, false, cond, eqb, ltb, ◌≢◌, ◌↔◌, List, [], ◌∷◌, length, take, sym, refl, ap, ◌∙◌, inl, inr, ⊎_elim, true≢false, arith, ltb-false, ltb-true}
 use mathlib.Core.Bool.{false≢true}
 use Rattle.laws.specs.First.{first_from, is_found}
-use Rattle.laws.specs.declared.Found.{Found}
-use Rattle.laws.specs.declared.Found.TheVariants.{At, Missing}
+use Rattle.std.specs.Prelude.{Option, Some, None}
 use Rattle.address.specs.Master.{slave_of}
 use Rattle.wire.specs.Load.{load_of}
 use Rattle.station.specs.Replies.{reply_entries, is_for, count_in, entry_of, added, written_at, written}
@@ -44,7 +43,7 @@ entry_reflects pb sb i (e ∷ l) =
     go (is_for e pb sb) (and_reflects (eqb e.pb pb) _ (equal e.pb pb) (equal e.sb sb)) (entry_reflects pb sb (suc i) l)
   where
     go : (t : Bool) → Reflects t (EntryFor pb sb e) → Reflects (is_found (first_from (λ e. is_for e pb sb) (suc i) l)) (Any (EntryFor pb sb) l)
-        → Reflects (is_found (cond t (At i) (first_from (λ e. is_for e pb sb) (suc i) l))) (Any (EntryFor pb sb) (e ∷ l))
+        → Reflects (is_found (cond t (Some i) (first_from (λ e. is_for e pb sb) (suc i) l))) (Any (EntryFor pb sb) (e ∷ l))
     go true q on = (λ x. here (q.0 refl), λ s. refl)
     go false q on = (λ x. there (on.0 x), λ s. on.1 (any_tail (refuses false q refl) s))
 
@@ -61,10 +60,10 @@ full book r =
     more true e n = rw e (λ x. absurd (true≢false x), λ h. absurd (omega (arith, h.0, ltb-true book.held reply_entries e)))
     more false e n = rw e (λ x. (ltb-false book.held reply_entries e, n), λ h. refl)
 
-    go : (f : Found) → Reflects (is_found f) (HasEntry book r.pb r.sb)
+    go : (f : Option ℕ) → Reflects (is_found f) (HasEntry book r.pb r.sb)
         → ((written_at f book r).taken ≡ false) ↔ ((reply_entries ≤ book.held) × (HasEntry book r.pb r.sb → ⊥))
-    go (At i) q = (λ x. absurd (true≢false x), λ h. absurd (h.1 (q.0 refl)))
-    go Missing q = more (ltb book.held reply_entries) refl (refuses false q refl)
+    go (Some i) q = (λ x. absurd (true≢false x), λ h. absurd (h.1 (q.0 refl)))
+    go None q = more (ltb book.held reply_entries) refl (refuses false q refl)
 
 -- ---- the lines
 
@@ -91,16 +90,16 @@ module _ (b : Bus) (slave pb sb : ℕ) (bytes : List ℕ) where
   unfolding replies refused_by
   refused_11 = go (first_of b (Slave slave)) refl (someone (SlaveAt slave) (Slave slave) (slave_reflects slave) b)
     where
-      go : (f : Found) → first_of b (Slave slave) ≡ f → Reflects (is_found (first_of b (Slave slave))) (Any (SlaveAt slave) (attached_turns b))
+      go : (f : Option ℕ) → first_of b (Slave slave) ≡ f → Reflects (is_found (first_of b (Slave slave))) (Any (SlaveAt slave) (attached_turns b))
           → (number_given (replies_at f b pb sb bytes) ≡ 11) ↔ NoSlaveThere b slave
-      go (At i) e r = (
+      go (Some i) e r = (
         λ n. absurd
             (not_number (no_command pb sb) 3 _ 11 (omega arith)
             (not_number (ltb 16 (length bytes)) 4 _ 11 (omega arith) (not_number (roomy i) 0 12 11 (omega arith) (omega arith)))
             (sym (reply_number i) ∙ n)),
         λ n. absurd (n (r.0 (ap is_found e))),
       )
-      go Missing e r = (λ n. refuses _ r (ap is_found e), λ n. refl)
+      go None e r = (λ n. refuses _ r (ap is_found e), λ n. refl)
 
   -- a later line: there is a slave, and the line is given for it
   after_slave : {D : Type 0} (n : ℕ) → 11 ≢ n
@@ -109,12 +108,12 @@ module _ (b : Bus) (slave pb sb : ℕ) (bytes : List ℕ) where
   unfolding replies refused_by
   after_slave {D} n h on = go (first_of b (Slave slave)) refl (someone (SlaveAt slave) (Slave slave) (slave_reflects slave) b)
     where
-      go : (f : Found) → first_of b (Slave slave) ≡ f → Reflects (is_found (first_of b (Slave slave))) (Any (SlaveAt slave) (attached_turns b))
+      go : (f : Option ℕ) → first_of b (Slave slave) ≡ f → Reflects (is_found (first_of b (Slave slave))) (Any (SlaveAt slave) (attached_turns b))
           → (number_given (replies_at f b pb sb bytes) ≡ n) ↔ Unless (NoSlaveThere b slave) D
-      go (At i) e r =
+      go (Some i) e r =
           let p = on i (turn_found (SlaveAt slave) (Slave slave) (slave_reflects slave) b i e) in
           (λ g. (λ none. none (r.0 (ap is_found e)), p.0 (sym (reply_number i) ∙ g)), λ u. reply_number i ∙ p.1 u.1)
-      go Missing e r = (λ g. absurd (h g), λ u. absurd (u.0 (refuses _ r (ap is_found e))))
+      go None e r = (λ g. absurd (h g), λ u. absurd (u.0 (refuses _ r (ap is_found e))))
 
   -- 3: PB or SB is A9 or AA
   pub refused_3 : (given ≡ 3) ↔ Unless (NoSlaveThere b slave) (WrongCommand pb sb)
@@ -171,6 +170,6 @@ module _ (b : Bus) (slave pb sb : ℕ) (bytes : List ℕ) where
   unfolding replies refused_by
   reply_own_numbers = go (first_of b (Slave slave))
     where
-      go : (f : Found) → Own (number_given (replies_at f b pb sb bytes))
-      go (At i) = rw (reply_number i) (own_lines i)
-      go Missing = there (here refl)
+      go : (f : Option ℕ) → Own (number_given (replies_at f b pb sb bytes))
+      go (Some i) = rw (reply_number i) (own_lines i)
+      go None = there (here refl)

@@ -50,16 +50,10 @@ pub waiting_is : (b : Bus) (word : Sound) (turns : List Turn) (j : ℕ) {bits : 
     → bits ≡ bids_among j turns → bits ≡ waiting_after b word
 waiting_is b word turns j e t o = rw (o, t, e)
 
-slot_spoken : (b : Bus) {word : Sound} → word ≡ spoken b → slot_heard b word ≡ slot_run b
+-- all hear what is said: an undisturbed one
+pub slot_spoken : (b : Bus) {word : Sound} → word ≡ spoken b → slot_heard b word ≡ slot_run b
 unfolding slot_run
 slot_spoken b w = ap (slot_heard b) w
-
--- after an undisturbed one
-pub slot_is : (b next : Bus) (word : Sound) → word ≡ spoken b
-    → next.turns ≡ map_first (turned word) (attached_to b) b.turns → next.count ≡ b.count
-    → next.slot ≡ (b.slot + 1) % 2 ^ 32 → next.ran ≡ true → next.quiet ≡ generator_next b.quiet word → next.began ≡ began_after b word
-    → next.waiting ≡ waiting_after b word → next ≡ slot_run b
-slot_is b next word w t c s r q o v = heard_is b next word t c s r q o v ∙ slot_spoken b w
 
 -- ---- one slot of the run
 

@@ -5,8 +5,7 @@ use mathlib.Core.Bool.{false≢true}
 use native.Mathlib.Nat.{mod-add-mod, div-add-mod}
 use borrow.Author.Tests.{eqb-false}
 use Rattle.laws.specs.First.{first_from, is_found}
-use Rattle.laws.specs.declared.Found.{Found}
-use Rattle.laws.specs.declared.Found.TheVariants.{At, Missing}
+use Rattle.std.specs.Prelude.{Option, Some, None}
 use Rattle.wire.specs.Reader.{master_start}
 use Rattle.wire.specs.Symbol.{kind_of}
 use Rattle.wire.specs.declared.reader.Cursor.{Cursor}
@@ -471,9 +470,9 @@ at_rest_means b e =
         go true q e = resting t q
         go false q e = absurd (true≢false e)
 
-    missed : (f : Found) → is_found f ≡ false → f ≡ Missing
-    missed (At i) e = absurd (true≢false e)
-    missed Missing e = refl
+    missed : (f : Option ℕ) → is_found f ≡ false → f ≡ None
+    missed (Some i) e = absurd (true≢false e)
+    missed None e = refl
 
 -- a run over a bus at rest: whole tens leave the bus as it was but for the slot number, and tell nobody anything
 pub tens : (left : ℕ) (b : Bus) → at_rest b ≡ true → 9 < left → runs left b ≡ runs (left % 10) (slots_later b (left - left % 10))

@@ -8,7 +8,7 @@ use Rattle.station.specs.Station.{fresh}
 use Rattle.station.specs.declared.phase.Told.TheVariants.{Silence}
 use Rattle.station.specs.declared.station.Turn.{Turn}
 use Rattle.bus.specs.declared.bus.Bus.{Bus}
-use Rattle.bus.specs.declared.bus.Answer.{Answer}
+use Rattle.bus.specs.Bus.{Answer}
 use Rattle.bus.specs.declared.find.Query.TheVariants.{Holder}
 use Rattle.bus.specs.declared.refusal.Refusal.TheVariants.{Running, NoSuchAddress, InUse, NoRoom}
 use Rattle.bus.specs.Bus.{seats, refused_by, done}

@@ -5,9 +5,8 @@ use Rattle.station.specs.Station.{fresh}
 use Rattle.station.specs.declared.phase.Told.TheVariants.{Silence}
 use Rattle.station.specs.declared.station.Turn.{Turn}
 use Rattle.bus.specs.declared.bus.Bus.{Bus}
-use Rattle.bus.specs.declared.bus.Answer.{Answer}
 use Rattle.bus.specs.declared.refusal.Refusal.{Refusal}
-use Rattle.bus.specs.declared.refusal.Verdict.TheVariants.{Done, Refused}
+use Rattle.std.specs.Prelude.{Result, Ok, Err, ⊤}
 
 -- room for 32 stations
 abbrev pub seats : ℕ
@@ -40,9 +39,17 @@ with_bits b i t bits =
 unfoldable pub with_turn : Bus → ℕ → Turn → Bus
 with_turn b i t = with_bits b i t b.waiting
 
+-- the bus after a call, and what the call says
+pub record Answer : Type 0 where
+  pub bus : Bus
+  pub verdict : Result ⊤ Refusal
+
+abbrev pub answer : Bus → Result ⊤ Refusal → Answer
+answer b v = record { bus = b; verdict = v }
+
 -- a refused call changes nothing
 unfoldable pub refused_by : Bus → Refusal → Answer
-refused_by b r = record { bus = b; verdict = Refused r }
+refused_by b r = record { bus = b; verdict = Err r }
 
 unfoldable pub done : Bus → Answer
-done b = record { bus = b; verdict = Done }
+done b = record { bus = b; verdict = Ok tt }

@@ -9,16 +9,16 @@ use Rattle.station.specs.declared.replies.Reply.{Reply}
 use Rattle.station.specs.declared.replies.ReplyBook.{ReplyBook}
 use Rattle.station.specs.declared.station.Turn.{Turn}
 use Rattle.bus.specs.declared.bus.Bus.{Bus}
-use Rattle.bus.specs.declared.bus.Answer.{Answer}
-use Rattle.bus.specs.declared.refusal.Verdict.{Verdict}
-use Rattle.bus.specs.declared.refusal.Verdict.TheVariants.{Done, Refused}
+use Rattle.bus.specs.Bus.{Answer}
+use Rattle.std.specs.Prelude.{Result, Ok, Err, ⊤}
+use Rattle.bus.specs.declared.refusal.Refusal.{Refusal}
 use Rattle.bus.specs.Bus.{seats, attached_to, attached_turns}
 use Rattle.bus.specs.Refusal.{refusal_number}
 
 -- the number that the table gives a verdict; 0 where the call is done
-abbrev pub verdict_number : Verdict → ℕ
-verdict_number Done = 0
-verdict_number (Refused r) = refusal_number r
+abbrev pub verdict_number : Result ⊤ Refusal → ℕ
+verdict_number (Ok tt) = 0
+verdict_number (Err r) = refusal_number r
 
 abbrev pub number_given : Answer → ℕ
 number_given a = verdict_number a.verdict

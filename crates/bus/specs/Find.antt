@@ -1,7 +1,7 @@
 -- The first attached station of which something holds. Assumes nothing.
 use Rattle.std.specs.Prelude.{ℕ, Bool, true, false, cond, ◌==◌}
 use Rattle.laws.specs.First.{first_from, is_found}
-use Rattle.laws.specs.declared.Found.{Found}
+use Rattle.std.specs.Prelude.{Option}
 use Rattle.address.specs.Master.{slave_of}
 use Rattle.station.specs.Addressed.{is_own}
 use Rattle.station.specs.Phase.{owner}
@@ -35,7 +35,7 @@ meets Restless t = cond (rests t) false true
 meets ToldOwns t = is_owns t.told
 meets InTransfer t = in_transfer t
 
-unfoldable pub first_of : Bus → Query → Found
+unfoldable pub first_of : Bus → Query → Option ℕ
 first_of b q = first_from (meets q) 0 (attached_turns b)
 
 unfoldable pub there_is : Bus → Query → Bool

@@ -1,7 +1,6 @@
 -- A telegram is queued: refusals 1, 2, 3, 4, 5 in that order (01, the table). Assumes nothing.
 use Rattle.std.specs.Prelude.{ℕ, Bool, true, false, cond, List, length, nat_lt}
-use Rattle.laws.specs.declared.Found.{Found}
-use Rattle.laws.specs.declared.Found.TheVariants.{At, Missing}
+use Rattle.std.specs.Prelude.{Option, Some, None}
 use Rattle.address.specs.Role.{role_of}
 use Rattle.address.specs.declared.Role as R
 use Rattle.address.specs.declared.Role.TheVariants as role
@@ -10,15 +9,14 @@ use Rattle.wire.specs.declared.part.Telegram.{Telegram}
 use Rattle.station.specs.Outbox.{accepted}
 use Rattle.station.specs.Addressed.{is_own}
 use Rattle.station.specs.Turn.{with_outbox}
-use Rattle.station.specs.declared.outbox.Accepted.{Accepted}
+use Rattle.station.specs.Outbox.{Accepted}
 use Rattle.station.specs.declared.station.Station.{Station}
 use Rattle.station.specs.declared.station.Turn.{Turn}
 use Rattle.bus.specs.declared.bus.Bus.{Bus}
-use Rattle.bus.specs.declared.bus.Answer.{Answer}
-use Rattle.bus.specs.declared.bus.Held.{Held}
+use Rattle.bus.specs.Bus.{Answer}
 use Rattle.bus.specs.declared.find.Query.TheVariants.{Master}
-use Rattle.bus.specs.declared.refusal.Verdict.{Verdict}
-use Rattle.bus.specs.declared.refusal.Verdict.TheVariants.{Done, Refused}
+use Rattle.std.specs.Prelude.{Result, Ok, Err, ⊤}
+use Rattle.bus.specs.declared.refusal.Refusal.{Refusal}
 use Rattle.bus.specs.declared.refusal.Refusal.TheVariants.{NoMaster, NoTarget, NoCommand, TooMuchData, OutboxFull}
 use Rattle.bus.specs.Bus.{turn_at, with_bits, refused_by, done}
 use Rattle.bus.specs.Find.{first_of}
@@ -65,9 +63,9 @@ queues_from b i zz pb sb bytes =
     (holds b i (record { qq = (turn_at b i).station.address; zz = zz; pb = pb; sb = sb; load = load_of bytes }))))
 
 -- 1: source is no attached master
-abbrev pub queues_at : Found → Bus → ℕ → ℕ → ℕ → List ℕ → Answer
-queues_at (At i) b zz pb sb bytes = queues_from b i zz pb sb bytes
-queues_at Missing b zz pb sb bytes = refused_by b NoMaster
+abbrev pub queues_at : Option ℕ → Bus → ℕ → ℕ → ℕ → List ℕ → Answer
+queues_at (Some i) b zz pb sb bytes = queues_from b i zz pb sb bytes
+queues_at None b zz pb sb bytes = refused_by b NoMaster
 
 unfoldable pub queues : Bus → ℕ → ℕ → ℕ → ℕ → List ℕ → Answer
 queues b qq zz pb sb bytes = queues_at (first_of b (Master qq)) b zz pb sb bytes
@@ -75,9 +73,17 @@ queues b qq zz pb sb bytes = queues_at (first_of b (Master qq)) b zz pb sb bytes
 -- ---- no rule: the same as the code does it, with the source's seat worked on by itself (proofs/PutBack.antt)
 
 -- a refused call leaves the bits as they were
-abbrev pub bits_after : Verdict → ℕ → Turn → ℕ
-bits_after Done bits t = with_bid bits t
-bits_after (Refused r) bits t = bits
+abbrev pub bits_after : Result ⊤ Refusal → ℕ → Turn → ℕ
+bits_after (Ok tt) bits t = with_bid bits t
+bits_after (Err r) bits t = bits
+
+-- what a call makes of the one seat that it is about, and what it says
+pub record Held : Type 0 where
+  pub turn : Turn
+  pub verdict : Result ⊤ Refusal
+
+abbrev pub held : Turn → Result ⊤ Refusal → Held
+held t v = record { turn = t; verdict = v }
 
 -- the seat as the call left it, put back
 abbrev pub put_back : Bus → ℕ → Held → Answer

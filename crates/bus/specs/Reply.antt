@@ -1,17 +1,16 @@
 -- A slave's reply is set: refusals 11, 3, 4, 12 in that order (01, the table). Assumes nothing.
 use Rattle.std.specs.Prelude.{ℕ, cond, List, length, nat_lt}
-use Rattle.laws.specs.declared.Found.{Found}
-use Rattle.laws.specs.declared.Found.TheVariants.{At, Missing}
+use Rattle.std.specs.Prelude.{Option, Some, None}
 use Rattle.wire.specs.Load.{most_data, load_of}
 use Rattle.station.specs.Replies.{written}
 use Rattle.station.specs.Turn.{keeping}
 use Rattle.station.specs.declared.replies.Reply.{Reply}
 use Rattle.station.specs.declared.replies.ReplyBook.{ReplyBook}
-use Rattle.station.specs.declared.replies.Written.{Written}
+use Rattle.station.specs.Replies.{Written}
 use Rattle.station.specs.declared.station.Station.{Station}
 use Rattle.station.specs.declared.station.Turn.{Turn}
 use Rattle.bus.specs.declared.bus.Bus.{Bus}
-use Rattle.bus.specs.declared.bus.Answer.{Answer}
+use Rattle.bus.specs.Bus.{Answer}
 use Rattle.bus.specs.declared.find.Query.TheVariants.{Slave}
 use Rattle.bus.specs.declared.refusal.Refusal.TheVariants.{NoSlave, NoCommand, TooMuchData, BookFull}
 use Rattle.bus.specs.Bus.{turn_at, with_turn, refused_by, done}
@@ -39,9 +38,9 @@ replies_from b i pb sb bytes =
     (writes b i (record { pb = pb; sb = sb; load = load_of bytes })))
 
 -- 11: address is not the slave address of an attached station, slave or master
-abbrev pub replies_at : Found → Bus → ℕ → ℕ → List ℕ → Answer
-replies_at (At i) b pb sb bytes = replies_from b i pb sb bytes
-replies_at Missing b pb sb bytes = refused_by b NoSlave
+abbrev pub replies_at : Option ℕ → Bus → ℕ → ℕ → List ℕ → Answer
+replies_at (Some i) b pb sb bytes = replies_from b i pb sb bytes
+replies_at None b pb sb bytes = refused_by b NoSlave
 
 unfoldable pub replies : Bus → ℕ → ℕ → ℕ → List ℕ → Answer
 replies b slave pb sb bytes = replies_at (first_of b (Slave slave)) b pb sb bytes

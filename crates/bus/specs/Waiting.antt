@@ -2,7 +2,7 @@
 -- Assumes nothing.
 use Rattle.std.specs.Prelude.{ℕ, cond, List, [], ◌∷◌, take}
 use Rattle.ranks.specs.Bits.{with_rank, least_of}
-use Rattle.ranks.specs.declared.Next.{Next}
+use Rattle.std.specs.Prelude.{Option}
 use Rattle.station.specs.Admission.{bids}
 use Rattle.station.specs.declared.station.Turn.{Turn}
 use Rattle.bus.specs.declared.bus.Bus.{Bus}
@@ -26,5 +26,5 @@ unfoldable pub gathered : Bus → ℕ
 gathered b = bids_among (attached_to b) b.turns
 
 -- the master that will own the wire after this SYN: the least rank, or nobody
-unfoldable pub next_of : Bus → Next
+unfoldable pub next_of : Bus → Option ℕ
 next_of b = least_of b.waiting

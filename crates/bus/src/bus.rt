@@ -1,12 +1,11 @@
-// The bus as a value, and what a call gives back.
-ghost use Rattle.std.specs.Prelude.{◌≡◌, ℕ};
-ghost use Rattle.bus.specs.declared.bus.Bus.{Bus};
-ghost use Rattle.bus.specs.Bus.{unseated, powered_on, attached_to, turn_at, with_turn, refused_by, done};
+// The bus as a value.
+ghost use Rattle.std.specs.Prelude.{◌≡◌};
+ghost use Rattle.bus.specs.Bus.{unseated, powered_on, attached_to, attached_turns, turn_at};
 
-use crate::refusal::{Refusal, Verdict};
 use station::phase::Told;
 use station::station::{Station, Turn};
 
+// Array and count, no Vec: refusal 10 comes at 32 stations attached and at nothing else.
 #[derive(Clone, Copy)]
 pub struct Bus {
     // Each station with what the last slot told it, in attach order.
@@ -23,20 +22,6 @@ pub struct Bus {
     pub waiting: u32,
 }
 
-// The bus after a call; a refused call leaves it as it was.
-#[derive(Clone, Copy)]
-pub struct Answer {
-    pub bus: Bus,
-    pub verdict: Verdict,
-}
-
-// What a call makes of the one seat that it is about; a refused call leaves it as it was.
-#[derive(Clone, Copy)]
-pub struct Held {
-    pub turn: Turn,
-    pub verdict: Verdict,
-}
-
 fn unseated() -> Turn
     ensures { result ≡ unseated }
 {
@@ -49,12 +34,12 @@ fn unseated() -> Turn
 impl Bus {
     pub const STATIONS: usize = 32;
 
+    #[tactic(auto, unfolding(crate::specs::Bus::powered_on))]
     pub fn power_on() -> Bus
         ensures { result ≡ powered_on }
     {
-        let none = unseated();
         Bus {
-            turns: [none; Bus::STATIONS],
+            turns: [unseated(); Bus::STATIONS],
             count: 0,
             slot: 0,
             ran: false,
@@ -65,61 +50,28 @@ impl Bus {
     }
 
     // How many stations are attached: never more than there is room for.
-    pub fn attached(self) -> usize
-        ensures { result ≡ attached_to self }
+    #[tactic(auto, unfolding(crate::specs::Bus::attached_to))]
+    pub fn attached(&self) -> usize
+        ensures { result ≡ attached_to self.now }
     {
-        laws::at_most(self.count, Bus::STATIONS)
+        self.count.min(Bus::STATIONS)
     }
 
-    pub fn turn(self, i: usize) -> Turn
-        ensures { result ≡ turn_at self i }
+    #[tactic(auto, using(crate::proofs::Loops::attached_fit))]
+    pub(crate) fn attached_turns(&self) -> &[Turn]
+        ensures { result.now ≡ attached_turns self.now }
+    {
+        &self.turns[..self.attached()]
+    }
+
+    #[tactic(auto, unfolding(crate::specs::Bus::turn_at))]
+    pub fn turn(&self, i: usize) -> Turn
+        ensures { result ≡ turn_at self.now i }
     {
         if i < Bus::STATIONS {
             self.turns[i]
         } else {
             unseated()
-        }
-    }
-
-    pub(crate) fn with_turn(mut self, i: usize, t: Turn) -> Bus
-        ensures { result ≡ with_turn self i t }
-    {
-        if i < Bus::STATIONS {
-            self.turns[i] = t;
-            self
-        } else {
-            self
-        }
-    }
-
-    pub(crate) fn refused(self, refusal: Refusal) -> Answer
-        ensures { result ≡ refused_by self refusal }
-    {
-        Answer {
-            bus: self,
-            verdict: Verdict::Refused(refusal),
-        }
-    }
-
-    pub(crate) fn done(self) -> Answer
-        ensures { result ≡ done self }
-    {
-        Answer {
-            bus: self,
-            verdict: Verdict::Done,
-        }
-    }
-}
-
-impl Held {
-    // Put back into the seat that it was taken from, the turn changes nothing.
-    pub(crate) fn refused(t: Turn, refusal: Refusal) -> Held
-        ensures { (b : Bus) (i : ℕ) → turn_at b i ≡ t
-            → refused_by b refusal ≡ record { bus = with_turn b i result.turn; verdict = result.verdict } }
-    {
-        Held {
-            turn: t,
-            verdict: Verdict::Refused(refusal),
         }
     }
 }

@@ -3,10 +3,10 @@ ghost use Rattle.std.specs.Prelude.{◌≡◌};
 ghost use Rattle.bus.specs.Find.{slave_address, is_master_at, meets, first_of, there_is};
 
 use crate::bus::Bus;
-use laws::Found;
+use crate::{rest, time};
 use station::station::{Station, Turn};
 
-// What is asked of a station.
+// What is asked of a station. An enum and no closure: definitions and theorems (`first_of`, `there_is`) name its cases.
 #[derive(Clone, Copy)]
 pub enum Query {
     // Whether it is the master attached with this address.
@@ -26,8 +26,9 @@ pub enum Query {
 }
 
 // The address at which a station is a slave.
-fn slave_address(s: Station) -> u8
-    ensures { result ≡ slave_address s }
+#[tactic(auto, unfolding(crate::specs::Find::slave_address))]
+fn slave_address(s: &Station) -> u8
+    ensures { result ≡ slave_address s.now }
 {
     if s.master {
         address::slave_of(s.address)
@@ -36,50 +37,38 @@ fn slave_address(s: Station) -> u8
     }
 }
 
-fn is_master_at(s: Station, a: u8) -> bool
-    ensures { result ≡ is_master_at s a }
+#[tactic(auto, unfolding(crate::specs::Find::is_master_at))]
+fn is_master_at(s: &Station, a: u8) -> bool
+    ensures { result ≡ is_master_at s.now a }
 {
-    if s.master { s.address == a } else { false }
+    s.master && s.address == a
 }
 
-fn meets(t: Turn, q: Query) -> bool
-    ensures { result ≡ meets q t }
+fn meets(t: &Turn, q: Query) -> bool
+    ensures { result ≡ meets q t.now }
 {
-    let s = t.station;
-    let told = t.told;
     match q {
-        Query::Master(a) => is_master_at(s, a),
-        Query::Slave(a) => slave_address(s) == a,
-        Query::Holder(a) => s.is_own(a),
-        Query::WasTold => crate::rest::is_told(told),
-        Query::Restless => { if crate::rest::rests(t) { false } else { true } }
-        Query::ToldOwns => crate::time::is_owns(told),
-        Query::InTransfer => crate::time::in_transfer(t),
+        Query::Master(a) => is_master_at(&t.station, a),
+        Query::Slave(a) => slave_address(&t.station) == a,
+        Query::Holder(a) => t.station.is_own(a),
+        Query::WasTold => rest::is_told(t.told),
+        Query::Restless => !rest::rests(t),
+        Query::ToldOwns => time::is_owns(t.told),
+        Query::InTransfer => time::in_transfer(t),
     }
 }
 
 impl Bus {
-    pub fn first(self, q: Query) -> Found
-        ensures { result ≡ first_of self q }
+    pub fn first(&self, q: Query) -> Option<usize>
+        ensures { result ≡ first_of self.now q }
     {
-        let n = self.attached();
-        let mut i: usize = 0;
-        while i < n {
-            let t = self.turns[i];
-            if meets(t, q) {
-                return Found::At(i);
-            }
-            i += 1;
-        }
-        Found::Missing
+        self.attached_turns().iter().position(|t| meets(t, q))
     }
 
-    pub fn there_is(self, q: Query) -> bool
-        ensures { result ≡ there_is self q }
+    #[tactic(auto, unfolding(crate::specs::Find::there_is))]
+    pub fn there_is(&self, q: Query) -> bool
+        ensures { result ≡ there_is self.now q }
     {
-        match self.first(q) {
-            Found::At(_) => true,
-            Found::Missing => false,
-        }
+        self.first(q).is_some()
     }
 }

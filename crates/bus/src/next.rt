@@ -3,16 +3,15 @@ ghost use Rattle.std.specs.Prelude.{◌≡◌};
 ghost use Rattle.bus.specs.Waiting.{with_bid, next_of};
 
 use crate::bus::Bus;
-use ranks::Next;
 use station::station::Turn;
 
 // The bits and that of a station's rank, if it is admitted and has a telegram waiting.
-pub(crate) fn with_bid(bits: u32, t: Turn) -> u32
-    ensures { result ≡ with_bid bits t }
+#[tactic(auto, unfolding(crate::specs::Waiting::with_bid))]
+pub(crate) fn with_bid(bits: u32, t: &Turn) -> u32
+    ensures { result ≡ with_bid bits t.now }
 {
-    let s = t.station;
-    if s.bids() {
-        ranks::with_rank(bits, s.address)
+    if t.station.bids() {
+        ranks::with_rank(bits, t.station.address)
     } else {
         bits
     }
@@ -20,8 +19,9 @@ pub(crate) fn with_bid(bits: u32, t: Turn) -> u32
 
 impl Bus {
     // The master that will own the wire after this SYN.
-    pub fn next(self) -> Next
-        ensures { result ≡ next_of self }
+    #[tactic(auto, unfolding(crate::specs::Waiting::next_of))]
+    pub fn next(&self) -> Option<u8>
+        ensures { result ≡ next_of self.now }
     {
         ranks::least(self.waiting)
     }

@@ -1,32 +1,39 @@
-// Why a call is turned down. The numbers are those of 01's table; 6 is not given any more (02, E8).
+// Why a call is turned down.
+ghost use Rattle.std.specs.Prelude.{◌≡◌};
+ghost use Rattle.bus.specs.Refusal.{refusal_number};
+
 #[derive(Clone, Copy)]
 pub enum Refusal {
-    // 7
     Running,
-    // 8
     NoSuchAddress,
-    // 9
     InUse,
-    // 10
     NoRoom,
-    // 1
     NoMaster,
-    // 2
     NoTarget,
-    // 11
     NoSlave,
-    // 3
     NoCommand,
-    // 4
     TooMuchData,
-    // 5
     OutboxFull,
-    // 12
     BookFull,
 }
 
-#[derive(Clone, Copy)]
-pub enum Verdict {
-    Done,
-    Refused(Refusal),
+impl Refusal {
+    // Its number in 01's table; 6 is not given any more (02, E8).
+    pub fn number(self) -> u32
+        ensures { result ≡ refusal_number self }
+    {
+        match self {
+            Refusal::NoMaster => 1,
+            Refusal::NoTarget => 2,
+            Refusal::NoCommand => 3,
+            Refusal::TooMuchData => 4,
+            Refusal::OutboxFull => 5,
+            Refusal::Running => 7,
+            Refusal::NoSuchAddress => 8,
+            Refusal::InUse => 9,
+            Refusal::NoRoom => 10,
+            Refusal::NoSlave => 11,
+            Refusal::BookFull => 12,
+        }
+    }
 }

@@ -13,29 +13,9 @@ fn skips_quiet(p: Phase) -> bool
     ensures { result ≡ skips_quiet p }
 {
     match p {
-        Phase::Silent => true,
-        Phase::Reading {
-            cursor: _,
-            part: _,
-            attempt: _,
-        } => true,
-        Phase::Sending {
-            at: _,
-            part: _,
-            attempt: _,
-        } => false,
-        Phase::Awaiting {
-            part: _,
-            attempt: _,
-        } => true,
-        Phase::Judging {
-            part: _,
-            attempt: _,
-            matched: _,
-            acknowledged,
-        } => acknowledged,
-        Phase::Owing => false,
-        Phase::Releasing => false,
+        Phase::Silent | Phase::Reading { .. } | Phase::Awaiting { .. } => true,
+        Phase::Judging { acknowledged, .. } => acknowledged,
+        _ => false,
     }
 }
 
@@ -43,35 +23,7 @@ fn skips_quiet(p: Phase) -> bool
 fn skips_symbol(p: Phase, since: Since) -> bool
     ensures { result ≡ skips_symbol p since }
 {
-    match p {
-        Phase::Silent => match since {
-            Since::Nothing => false,
-            Since::OneSymbol => false,
-            Since::ManyOrNoSyn => true,
-        },
-        Phase::Reading {
-            cursor: _,
-            part: _,
-            attempt: _,
-        } => false,
-        Phase::Sending {
-            at: _,
-            part: _,
-            attempt: _,
-        } => false,
-        Phase::Awaiting {
-            part: _,
-            attempt: _,
-        } => false,
-        Phase::Judging {
-            part: _,
-            attempt: _,
-            matched: _,
-            acknowledged: _,
-        } => false,
-        Phase::Owing => false,
-        Phase::Releasing => false,
-    }
+    matches!(p, Phase::Silent) && matches!(since, Since::ManyOrNoSyn)
 }
 
 fn skips(heard: Sound, p: Phase, since: Since) -> bool
@@ -79,97 +31,54 @@ fn skips(heard: Sound, p: Phase, since: Since) -> bool
 {
     match heard {
         Sound::Quiet => skips_quiet(p),
-        Sound::Symbol(s) => {
-            if s == Station::SYN {
-                false
-            } else {
-                skips_symbol(p, since)
-            }
-        }
+        Sound::Symbol(s) => s != Station::SYN && skips_symbol(p, since),
     }
 }
 
 // Whether the slot leaves it as it is.
-pub(crate) fn still(t: Turn, heard: Sound) -> bool
-    ensures { result ≡ still heard t }
+#[tactic(auto, unfolding(crate::specs::Still::still))]
+pub(crate) fn still(t: &Turn, heard: Sound) -> bool
+    ensures { result ≡ still heard t.now }
 {
-    let told = t.told;
-    if rest::is_told(told) {
-        return false;
-    }
-    let s = t.station;
-    if s.admitted {
-        return false;
-    }
-    let phase = s.phase;
-    let since = s.since;
-    skips(heard, phase, since)
+    !rest::is_told(t.told) && !t.station.admitted && skips(heard, t.station.phase, t.station.since)
 }
 
 // Whether it says nothing.
-pub(crate) fn mute(t: Turn) -> bool
-    ensures { result ≡ mute t }
+#[tactic(auto, unfolding(crate::specs::Still::mute))]
+fn mute(t: &Turn) -> bool
+    ensures { result ≡ mute t.now }
 {
-    let s = t.station;
-    if s.admitted {
-        return false;
-    }
-    let phase = s.phase;
-    skips_quiet(phase)
+    !t.station.admitted && skips_quiet(t.station.phase)
 }
 
 fn owes(p: Phase) -> bool
     ensures { result ≡ owes p }
 {
-    match p {
-        Phase::Silent => false,
-        Phase::Reading {
-            cursor: _,
-            part: _,
-            attempt: _,
-        } => false,
-        Phase::Sending {
-            at: _,
-            part: _,
-            attempt: _,
-        } => false,
-        Phase::Awaiting {
-            part: _,
-            attempt: _,
-        } => false,
-        Phase::Judging {
-            part: _,
-            attempt: _,
-            matched: _,
-            acknowledged: _,
-        } => false,
-        Phase::Owing => true,
-        Phase::Releasing => false,
-    }
+    matches!(p, Phase::Owing)
 }
 
 // What a station says, made ready for the slot.
-pub(crate) fn said_by(t: Turn) -> Sound
-    ensures { result ≡ said_by t }
+#[tactic(auto, using(crate::proofs::PassedBy::mute_says, crate::proofs::PassedBy::ready_so))]
+pub(crate) fn said_by(t: &Turn) -> Sound
+    ensures { result ≡ said_by t.now }
 {
-    let s = t.station;
-    let phase = s.phase;
-    if owes(phase) {
-        s.ready().say()
+    if mute(t) {
+        Sound::Quiet
+    } else if owes(t.station.phase) {
+        t.station.ready().say()
     } else {
-        s.say()
+        t.station.say()
     }
 }
 
 // What a station makes of what is heard.
-pub(crate) fn turned(t: Turn, heard: Sound) -> Turn
-    ensures { result ≡ turned heard t }
+#[tactic(auto, using(crate::proofs::PassedBy::ready_so))]
+pub(crate) fn turned(t: &Turn, heard: Sound) -> Turn
+    ensures { result ≡ turned heard t.now }
 {
-    let s = t.station;
-    let phase = s.phase;
-    if owes(phase) {
-        s.ready().hear(heard)
+    if owes(t.station.phase) {
+        t.station.ready().hear(heard)
     } else {
-        s.hear(heard)
+        t.station.hear(heard)
     }
 }

@@ -1,10 +1,8 @@
 // When the events of a slot happened, and how long the master had then held the wire (02, E4).
 ghost use Rattle.std.specs.Prelude.{◌≡◌};
-ghost use Rattle.bus.specs.declared.find.Query.TheVariants.{ToldOwns};
 ghost use Rattle.bus.specs.Told.{is_owns, is_free};
 ghost use Rattle.bus.specs.Find.{in_transfer};
 ghost use Rattle.bus.specs.Slot.{latest};
-ghost use Rattle.bus.specs.Strides.{or_meets};
 ghost use Rattle.bus.specs.Time.{since_owns, elapsed, time_of, time_if_free};
 
 use crate::bus::Bus;
@@ -23,57 +21,21 @@ pub struct Time {
 pub(crate) fn is_owns(told: Told) -> bool
     ensures { result ≡ is_owns told }
 {
-    match told {
-        Told::Silence => false,
-        Told::Owns => true,
-        Told::Taken => false,
-        Told::Failed(_) => false,
-        Told::Free => false,
-        Told::FailedFree(_) => false,
-        Told::Given => false,
-        Told::Answered => false,
-    }
+    matches!(told, Told::Owns)
 }
 
 fn is_free(told: Told) -> bool
     ensures { result ≡ is_free told }
 {
-    match told {
-        Told::Silence => false,
-        Told::Owns => false,
-        Told::Taken => false,
-        Told::Failed(_) => false,
-        Told::Free => true,
-        Told::FailedFree(_) => true,
-        Told::Given => false,
-        Told::Answered => false,
-    }
+    matches!(told, Told::Free | Told::FailedFree(_))
 }
 
 // It owns the wire, or has left it in this very slot.
-pub(crate) fn in_transfer(t: Turn) -> bool
-    ensures { result ≡ in_transfer t }
+#[tactic(auto, unfolding(crate::specs::Find::in_transfer))]
+pub(crate) fn in_transfer(t: &Turn) -> bool
+    ensures { result ≡ in_transfer t.now }
 {
-    let s = t.station;
-    let phase = s.phase;
-    if phase.owns() {
-        true
-    } else {
-        let told = t.told;
-        is_free(told)
-    }
-}
-
-// Whether one so far or this one was told owns.
-pub(crate) fn or_owns(already: bool, t: Turn) -> bool
-    ensures { result ≡ or_meets ToldOwns already t }
-{
-    if already {
-        true
-    } else {
-        let told = t.told;
-        is_owns(told)
-    }
+    t.station.phase.owns() || is_free(t.told)
 }
 
 // The slot of the latest owns line: this one, if somebody is told owns in it.
@@ -84,14 +46,15 @@ pub(crate) fn latest(owns: bool, slot: u32, began: u32) -> u32
 }
 
 impl Bus {
-    fn since_owns(self) -> u32
-        ensures { result ≡ since_owns self }
+    fn since_owns(&self) -> u32
+        ensures { result ≡ since_owns self.now }
     {
-        std::num::wrapping_sub_u32(self.slot, self.began)
+        self.slot.wrapping_sub(self.began)
     }
 
-    fn elapsed(self) -> u32
-        ensures { result ≡ elapsed self }
+    #[tactic(auto, unfolding(crate::specs::Time::elapsed))]
+    fn elapsed(&self) -> u32
+        ensures { result ≡ elapsed self.now }
     {
         if self.there_is(Query::InTransfer) {
             self.since_owns()
@@ -100,8 +63,9 @@ impl Bus {
         }
     }
 
-    pub fn time(self) -> Time
-        ensures { result ≡ time_of self }
+    #[tactic(auto, unfolding(crate::specs::Time::time_of))]
+    pub fn time(&self) -> Time
+        ensures { result ≡ time_of self.now }
     {
         Time {
             slot: self.slot,
@@ -110,8 +74,8 @@ impl Bus {
     }
 
     // A way to be fast, no rule: where a free line tells that the slot is inside a transfer, nobody is asked.
-    pub fn time_if_free(self) -> Time
-        ensures { result ≡ time_if_free self }
+    pub fn time_if_free(&self) -> Time
+        ensures { result ≡ time_if_free self.now }
     {
         Time {
             slot: self.slot,

@@ -12,8 +12,8 @@ use lib.ListN.{set}
 use lib.Seq.{sets}
 use Rattle.laws.proofs.AtMost.{at_most_test}
 use Rattle.buslog.specs.declared.log.Log.{Log}
-use Rattle.buslog.specs.Ring.{Ring, ring, byte_at, bytes_from, size_of_oldest, without, is_short, room_from, room_for}
-use Rattle.buslog.specs.Read.{fitting_from, fitting_in, rest_after}
+use Rattle.buslog.specs.Ring.{Ring, ring, byte_at, bytes_from, size_of_oldest, without, is_short, room_from}
+use Rattle.buslog.specs.Read.{fitting_from, rest_after}
 
 -- a record has at least a byte where any are held
 pub oldest_some : (d : Ring) → 0 < d.log.held → 0 < size_of_oldest d
@@ -42,9 +42,6 @@ pub record RoomsTo (n : ℕ) (bytes : List ℕ) (l r : Log) : Type 0 where
   pub enough : l.held ≤ turns
   pub comes : room_from turns n bytes l ≡ r
 
-pub rooms_first : (n : ℕ) (bytes : List ℕ) (l : Log) → RoomsTo n bytes l (room_for n bytes l)
-rooms_first n bytes l = record { turns = l.held; enough = omega arith; comes = refl }
-
 pub rooms_end : {n : ℕ} {bytes : List ℕ} {l r : Log} → RoomsTo n bytes l r → is_short l n ≡ false → l ≡ r
 unfolding room_from
 rooms_end {n} {bytes} {l} {r} f e = go f.turns f.comes
@@ -68,9 +65,6 @@ pub record FitsTo (n : ℕ) (bytes : List ℕ) (used : ℕ) (l : Log) (r : ℕ) 
   pub turns : ℕ
   pub enough : l.held ≤ turns
   pub comes : used + fitting_from turns bytes (n - used) l ≡ r
-
-pub fits_first : (n : ℕ) (bytes : List ℕ) (l : Log) → FitsTo n bytes 0 l (fitting_in bytes n l)
-fits_first n bytes l = record { turns = l.held; enough = omega arith; comes = simp unary_clauses (omega arith) }
 
 -- nothing is held
 pub fits_end : {n : ℕ} {bytes : List ℕ} {used : ℕ} {l : Log} {r : ℕ} → FitsTo n bytes used l r → l.held ≤ 0 → used ≡ r
@@ -115,9 +109,6 @@ fits_on {n} {bytes} {used} {l} {r} {size} {m} f s i h e = go f.turns f.enough f.
 
 -- ---- behind k records
 
-pub rest_first : (k : ℕ) (bytes : List ℕ) (l : Log) → rest_after (k - 0) bytes l ≡ rest_after k bytes l
-rest_first k bytes l = ap (λ (v : ℕ). rest_after v bytes l) (omega arith)
-
 -- nothing is held
 pub rest_empty : (k : ℕ) (bytes : List ℕ) (l : Log) → l.held ≡ 0 → rest_after k bytes l ≡ l
 unfolding rest_after
@@ -138,9 +129,6 @@ rest_done k i bytes l h =
     rw e
 
 -- ---- bytes copied
-
-pub copied_first : (d : Ring) (n : ℕ) (out : List ℕ) → sets out 0 (bytes_from d 0 (n - 0)) ≡ sets out 0 (bytes_from d 0 n)
-copied_first d n out = ap (λ (v : ℕ). sets out 0 (bytes_from d 0 v)) (omega arith)
 
 pub copied_on : (d : Ring) (n i : ℕ) (out : List ℕ) {b : ℕ} {next r : List ℕ} → i < n → b ≡ byte_at d i → next ≡ set out i b
     → sets out i (bytes_from d i (n - i)) ≡ r → sets next (i + 1) (bytes_from d (i + 1) (n - (i + 1))) ≡ r

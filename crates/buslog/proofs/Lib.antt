@@ -8,7 +8,6 @@ pub mod HoldsTheLatest
 pub mod Limits
 pub mod Longest
 pub mod OldestGoWhole
-pub mod Places
 pub mod ReadsBack
 pub mod ReadsWhole
 pub mod Records

@@ -10,7 +10,8 @@ use lib.Dec.{leb}
 use lib.ListN.{length, take, drop, length-append, drop_of_length-le}
 use lib.Seq.{sets-eq, take-append_seam, drop-append_seam}
 use Rattle.bus.specs.Events.{Line}
-use Rattle.buslog.specs.declared.log.Said.TheVariants.{Done, NoRecord, NoRoom}
+use Rattle.std.specs.Prelude.{Ok}
+use Rattle.buslog.specs.declared.log.ReadError.TheVariants.{NoRecord, NoRoom}
 use Rattle.buslog.specs.Fitting.{fitting_run}
 use Rattle.buslog.specs.Latest.{joined}
 use Rattle.buslog.specs.Read.{copying, saying, copy_of, fitting_from, read_into, rest_after, oldest_into, record_into}
@@ -98,7 +99,7 @@ bytes_fitting (suc k) n d room (l ∷ ls) h f =
 
 -- the first n bytes, over the front of the lent buffer
 copies : (d : Ring) (xs ys out : List ℕ) → Sound d → held_bytes d ≡ xs ++ ys → length xs ≤ length out
-    → copy_of (length xs) d out ≡ copying (xs ++ drop (length xs) out) (record { used = length xs; said = Done })
+    → copy_of (length xs) d out ≡ copying (xs ++ drop (length xs) out) (Ok (length xs))
 unfolding copy_of
 copies d xs ys out s e f =
     let n = length xs in
@@ -110,7 +111,7 @@ copies d xs ys out s e f =
 -- the oldest records, as many as fit whole; the rest of the lent buffer stays as it was
 pub reads : (d : Ring) (ls : List Line) (out : List ℕ) → Sound d → held_bytes d ≡ joined ls
     → read_into d out ≡ copying (joined (fitting_run (length out) ls) ++ drop (length (joined (fitting_run (length out) ls))) out)
-    (record { used = length (joined (fitting_run (length out) ls)); said = Done })
+    (Ok (length (joined (fitting_run (length out) ls))))
 unfolding read_into
 reads d ls out s e =
     let h = holds_lines d ls s e in
@@ -145,7 +146,7 @@ module _ (d : Ring) (xs ys : List Line) (l : Line) (out : List ℕ) (s : Sound d
 
   -- the record of the line before which k others stand, counted from 0, where it fits
   pub kth_record : length (record_of l) ≤ length out
-      → record_into d (length xs) out ≡ copying (record_of l ++ drop (length (record_of l)) out) (record { used = length (record_of l); said = Done })
+      → record_into d (length xs) out ≡ copying (record_of l ++ drop (length (record_of l)) out) (Ok (length (record_of l)))
   unfolding record_into oldest_into rest joined
   kth_record f =
       rw (own_buffer d s, ne_eqb rest.log.held 0 some_there, size_of_oldest_lem rest d.log.room l (joined ys) from_kth, le-leb (length (record_of l)) (length out) f)

@@ -1,11 +1,11 @@
 -- A record as the code writes it is the event's record. Assumes nothing.
 use mathlib.Core.Path.{◌≡◌, refl, sym, ap, ◌∙◌}
 use mathlib.Core.Bool.{Bool, true, false}
-use mathlib.Core.List.{List, [], ◌∷◌, ◌++◌}
+use mathlib.Core.List.{List, [], ◌∷◌, ◌++◌, append_assoc}
 use Prim.Native.Nat.{ℕ, ◌+◌, ◌≤◌, ◌<◌}
 use native.Mathlib.Omega.{arith}
-use lib.ListN.{length, get_or, take, drop, length-append, length-take, drop_of_length-le}
-use Rattle.laws.proofs.Lists.{left_of_first}
+use lib.ListN.{length, get_or, take, drop, length-append, drop_of_length-le}
+use Rattle.laws.proofs.Lists.{left_of}
 use Rattle.wire.specs.Form.{bytes_of, count_of}
 use Rattle.wire.specs.declared.pair.WrongPair.{WrongPair}
 use Rattle.wire.specs.declared.part.Load.{Load}
@@ -73,29 +73,22 @@ two_noted d time a n t {p} {q} e f =
     both_noted d (records_at time (failed_event a n ∷ [])) (records_at time (free_event a t ∷ [])) (e ∙ one_noted d time (failed_event a n)) (f ∙ free_noted p time a t)
     ∙ ap (λ (v : List (List ℕ)). noted_all d v) (sym (records_append time (failed_event a n ∷ []) (free_event a t ∷ [])))
 
--- one station of the first n
-pub pass_next : (time : Time) (last : Bool) (l : List Turn) (n i : ℕ) (d : Turn) → n ≤ length l → i < n
-    → records_at time (lines_of last (drop i (take n l))) ≡ pass_records time last (get_or l i d) ++ records_at time (lines_of last (drop (i + 1) (take n l)))
-unfolding pass_records
-pass_next time last l n i d f h =
-    ap (λ (v : List Turn). records_at time (lines_of last v)) (left_of_first l n i d f h)
-    ∙ records_append time (those last (tells (get_or l i d))) (lines_of last (drop (i + 1) (take n l)))
-
 -- ---- in the loops over the stations
 
-pub pass_on : (time : Time) (last : Bool) (l : List Turn) (n i : ℕ) (d : Turn) (p : Ring) {q r : Ring} → n ≤ length l → i < n → q ≡ noted_all p (pass_records time last (get_or l i d))
-    → noted_all p (records_at time (lines_of last (drop i (take n l)))) ≡ r → noted_all q (records_at time (lines_of last (drop (i + 1) (take n l)))) ≡ r
-pass_on time last l n i d p f h e w =
-    piece_noted p (pass_records time last (get_or l i d)) (records_at time (lines_of last (drop (i + 1) (take n l)))) (records_at time (lines_of last (drop i (take n l)))) e
-    (pass_next time last l n i d f h)
+pub pass_on : (time : Time) (last : Bool) (ts : List Turn) (i : ℕ) (d : Turn) (p : Ring) {q r : Ring} → i < length ts → q ≡ noted_all p (pass_records time last (get_or ts i d))
+    → noted_all p (records_at time (lines_of last (drop i ts))) ≡ r → noted_all q (records_at time (lines_of last (drop (i + 1) ts))) ≡ r
+unfolding pass_records
+pass_on time last ts i d p h e w =
+    piece_noted p (pass_records time last (get_or ts i d)) (records_at time (lines_of last (drop (i + 1) ts))) (records_at time (lines_of last (drop i ts))) e
+    (ap (λ (v : List Turn). records_at time (lines_of last v)) (left_of ts i d h)
+    ∙ records_append time (those last (tells (get_or ts i d))) (lines_of last (drop (i + 1) ts)))
     ∙ w
 
-pub pass_end : (time : Time) (last : Bool) (l : List Turn) (n i : ℕ) {p r : Ring} → n ≤ i
-    → noted_all p (records_at time (lines_of last (drop i (take n l)))) ≡ r → p ≡ r
+pub pass_end : (time : Time) (last : Bool) (ts : List Turn) (i : ℕ) {p r : Ring} → length ts ≤ i
+    → noted_all p (records_at time (lines_of last (drop i ts))) ≡ r → p ≡ r
 unfolding records_of
-pass_end time last l n i {p} h w =
-    let e : length (take n l) ≤ i = simp length-take (omega arith) in
-    finished_noted p (records_at time (lines_of last (drop i (take n l)))) (ap (λ (v : List Turn). records_at time (lines_of last v)) (drop_of_length-le (take n l) e)) w
+pass_end time last ts i {p} h w =
+    finished_noted p (records_at time (lines_of last (drop i ts))) (ap (λ (v : List Turn). records_at time (lines_of last v)) (drop_of_length-le ts h)) w
 
 -- both passes are the slot's records
 pub slot_noted : (b : Bus) (time : Time) (n : ℕ) (d : Ring) {p q : Ring} → time ≡ time_of b → n ≡ attached_to b
@@ -114,20 +107,18 @@ pub behind : {p q r : Ring} (xs ys : List ℕ) → p ≡ q → r ≡ pushed p xs
 behind {p} {q} xs ys e f g = f ∙ ap (λ (v : Ring). pushed v xs) e ∙ ap (λ (v : List ℕ). pushed q v) g
 
 -- the number of a failure, and the two of a broken pair
-pub pair_written : (d : Ring) (slot a : ℕ) (x : WrongPair) {f : Failure} {n : ℕ} {p q r s : Ring} → f ≡ PairBroken x → n ≡ number_of f → p ≡ begun d (tag_of failed) 3 slot a
-    → q ≡ pushed p (n ∷ []) → r ≡ pushed q (x.position ∷ []) → s ≡ pushed r (x.symbol ∷ []) → s ≡ written d (tag_of failed) slot a (number_of f ∷ pair_bytes (pair_of f))
+pub pair_written : (d : Ring) (slot a : ℕ) (x : WrongPair) {f : Failure} {n : ℕ} {p q : Ring} → f ≡ PairBroken x → n ≡ number_of f → p ≡ begun d (tag_of failed) 3 slot a
+    → q ≡ pushed p (n ∷ x.position ∷ x.symbol ∷ []) → q ≡ written d (tag_of failed) slot a (number_of f ∷ pair_bytes (pair_of f))
 unfolding written
-pair_written d slot a x {n = n} {p = p} e number begin one two three =
-    rw e
-    (behind (n ∷ x.position ∷ x.symbol ∷ []) _ begin (both p (n ∷ x.position ∷ []) (x.symbol ∷ []) (both p (n ∷ []) (x.position ∷ []) one two) three)
-    (ap (λ (k : ℕ). k ∷ x.position ∷ x.symbol ∷ []) (number ∙ ap number_of e)))
+pair_written d slot a x {n = n} {p = p} e number begin values =
+    rw e (behind (n ∷ x.position ∷ x.symbol ∷ []) _ begin values (ap (λ (k : ℕ). k ∷ x.position ∷ x.symbol ∷ []) (number ∙ ap number_of e)))
 
 -- some values, NN and data
 pub load_written : (d : Ring) (tag slot a k : ℕ) (xs : List ℕ) (l : Load) {p q r : Ring} → length l.bytes ≡ 16 → k ≡ count_of l → p ≡ begun d tag (length xs + (k + 1)) slot a
-    → q ≡ pushed p xs → r ≡ pushed q (count_of l ∷ bytes_of l) → r ≡ written d tag slot a (xs ++ length (bytes_of l) ∷ bytes_of l)
+    → q ≡ pushed p (xs ++ k ∷ []) → r ≡ pushed q (bytes_of l) → r ≡ written d tag slot a (xs ++ length (bytes_of l) ∷ bytes_of l)
 unfolding written
 load_written d tag slot a k xs l {p} {q} {r} h e f g i =
     let n : length xs + (k + 1) ≡ length (xs ++ length (bytes_of l) ∷ bytes_of l) =
     omega (arith, length-append xs (length (bytes_of l) ∷ bytes_of l), counted_length l h, e) in
-    behind (xs ++ count_of l ∷ bytes_of l) (xs ++ length (bytes_of l) ∷ bytes_of l) (f ∙ ap (λ (v : ℕ). begun d tag v slot a) n) (both p xs (count_of l ∷ bytes_of l) g i)
-    (ap (λ (v : ℕ). xs ++ v ∷ bytes_of l) (sym (counted_length l h)))
+    behind ((xs ++ k ∷ []) ++ bytes_of l) (xs ++ length (bytes_of l) ∷ bytes_of l) (f ∙ ap (λ (v : ℕ). begun d tag v slot a) n) (both p (xs ++ k ∷ []) (bytes_of l) g i)
+    (append_assoc xs (k ∷ []) (bytes_of l) ∙ ap (λ (v : ℕ). xs ++ v ∷ bytes_of l) (e ∙ sym (counted_length l h)))

@@ -6,21 +6,21 @@ use Prim.Native.Nat.{ℕ, ◌≤◌, ◌<◌}
 use native.Mathlib.Omega.{arith}
 use borrow.Author.Tests.{lt-ltb, le-ltb, ltb-true, ltb-false}
 use lib.Dec.{ltb}
-use Rattle.buslog.specs.declared.log.SetUp.TheVariants.{Ready, BadLength}
-use Rattle.buslog.specs.Log.{within_limits, fresh_for, set_up_for, set_up_number}
+use Rattle.std.specs.Prelude.{Ok, Err}
+use Rattle.buslog.specs.Log.{within_limits, fresh_for, bad_length, set_up_for, set_up_number}
 use Rattle.buslog.proofs.Limits.{limits_within}
 
 -- from 64 to 65,536 bytes: it is set up
-set_up : (n : ℕ) → 64 ≤ n → n ≤ 65536 → set_up_for n ≡ Ready (fresh_for n)
+set_up : (n : ℕ) → 64 ≤ n → n ≤ 65536 → set_up_for n ≡ Ok (fresh_for n)
 unfolding set_up_for
 set_up n h g = rw (limits_within n h g)
 
 -- any other: it is refused
-too_few : (n : ℕ) → n < 64 → set_up_for n ≡ BadLength
+too_few : (n : ℕ) → n < 64 → set_up_for n ≡ Err bad_length
 unfolding set_up_for within_limits
 too_few n h = rw (lt-ltb n 64 h)
 
-too_many : (n : ℕ) → 65536 < n → set_up_for n ≡ BadLength
+too_many : (n : ℕ) → 65536 < n → set_up_for n ≡ Err bad_length
 unfolding set_up_for within_limits
 too_many n h = rw (le-ltb n 64 (omega arith), lt-ltb 65536 n h)
 
@@ -33,7 +33,7 @@ by_limits n P f g = go (ltb n 64) (ltb 65536 n) refl refl
     go false true e i = g (inr (ltb-true 65536 n i))
     go false false e i = f (ltb-false n 64 e) (ltb-false 65536 n i)
 
-refused : (n : ℕ) → (n < 64) ⊎ (65536 < n) → set_up_for n ≡ BadLength
+refused : (n : ℕ) → (n < 64) ⊎ (65536 < n) → set_up_for n ≡ Err bad_length
 refused n o = ⊎_elim (λ h. too_few n h) (λ h. too_many n h) o
 
 -- refused with number 16, exactly where it has fewer or more
@@ -47,7 +47,7 @@ refused_16 n = (
     clash e = omega arith
 
 -- set up, with nothing held, exactly where it has neither
-pub ready_exactly : (n : ℕ) → (set_up_for n ≡ Ready (fresh_for n)) ↔ ((64 ≤ n) × (n ≤ 65536))
+pub ready_exactly : (n : ℕ) → (set_up_for n ≡ Ok (fresh_for n)) ↔ ((64 ≤ n) × (n ≤ 65536))
 ready_exactly n = (
   λ e. by_limits n ((64 ≤ n) × (n ≤ 65536)) (λ h g. (h, g)) (λ o. absurd (clash (sym (ap set_up_number (refused n o)) ∙ ap set_up_number e))),
   λ h. set_up n h.0 h.1,

@@ -8,20 +8,21 @@ use borrow.Author.Tests.{ne_eqb}
 use lib.ListN.{length}
 use Rattle.bus.specs.Events.{events}
 use Rattle.bus.specs.declared.bus.Bus.{Bus}
-use Rattle.buslog.specs.declared.log.Said.TheVariants.{Done, OtherLength}
+use Rattle.std.specs.Prelude.{Ok, Err}
+use Rattle.buslog.specs.declared.log.ReadError.TheVariants.{OtherLength}
 use Rattle.buslog.specs.Log.{is_of}
-use Rattle.buslog.specs.Note.{noted_all, records_of, slot_records, kept, note_in}
+use Rattle.buslog.specs.Note.{noted_all, records_of, slot_records, kept, other_length, note_in}
 use Rattle.buslog.specs.Read.{copying, saying, read_into, record_into}
 use Rattle.buslog.specs.Ring.{Ring}
 use Rattle.buslog.specs.Sound.{Sound}
 
 -- a slot that tells nobody anything is no record
-pub says_nothing_changes_nothing : (d : Ring) (b : Bus) → events b ≡ [] → is_of d.log (length d.bytes) ≡ true → note_in d b ≡ kept d Done
+pub says_nothing_changes_nothing : (d : Ring) (b : Bus) → events b ≡ [] → is_of d.log (length d.bytes) ≡ true → note_in d b ≡ kept d (Ok tt)
 unfolding note_in slot_records records_of noted_all
 says_nothing_changes_nothing d b e o = rw (o, e)
 
 -- a buffer of another length: the log and the buffer stay as they were
-pub other_length_changes_nothing : (d : Ring) (b : Bus) → is_of d.log (length d.bytes) ≡ false → note_in d b ≡ kept d OtherLength
+pub other_length_changes_nothing : (d : Ring) (b : Bus) → is_of d.log (length d.bytes) ≡ false → note_in d b ≡ kept d (Err other_length)
 unfolding note_in
 other_length_changes_nothing d b o = rw o
 

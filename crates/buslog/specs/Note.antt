@@ -1,13 +1,11 @@
 -- What a slot told, noted: one record for each event, in the order of `events` (02, E1). Assumes nothing.
-use Rattle.std.specs.Prelude.{Bool, cond, List, [], ◌∷◌, map, ℕ, ◌+◌, length}
+use Rattle.std.specs.Prelude.{Bool, cond, List, [], ◌∷◌, map, ℕ, ◌+◌, length, Result, Ok, Err}
 use Rattle.station.specs.Events.{Event, tells}
 use Rattle.station.specs.declared.station.Turn.{Turn}
 use Rattle.bus.specs.Events.{those, Line, line, events}
 use Rattle.bus.specs.declared.bus.Bus.{Bus}
 use Rattle.bus.specs.declared.time.Time.{Time}
-use Rattle.buslog.specs.declared.log.Said.{Said}
-use Rattle.buslog.specs.declared.log.Said.TheVariants.{Done, OtherLength}
-use Rattle.buslog.specs.declared.log.Kept.{Kept}
+use Rattle.buslog.specs.declared.log.OtherLength.{OtherLength}
 use Rattle.buslog.specs.Log.{is_of}
 use Rattle.buslog.specs.Record.{record_of, head_of}
 use Rattle.buslog.specs.Ring.{Ring, ring, room_for, pushed}
@@ -33,17 +31,17 @@ slot_records b = records_of (events b)
 -- a log, its buffer, and what a call says
 pub record Keeping : Type 0 where
   pub ring : Ring
-  pub said : Said
+  pub said : Result Unit OtherLength
 
-abbrev pub kept : Ring → Said → Keeping
+abbrev pub kept : Ring → Result Unit OtherLength → Keeping
 kept d s = record { ring = d; said = s }
 
-abbrev pub keeping : List ℕ → Kept → Keeping
-keeping bytes k = kept (ring bytes k.log) k.said
+abbrev pub other_length : OtherLength
+other_length = record {}
 
 -- a buffer of another length than at set-up changes nothing
 unfoldable pub note_in : Ring → Bus → Keeping
-note_in d b = cond (is_of d.log (length d.bytes)) (kept (noted_all d (slot_records b)) Done) (kept d OtherLength)
+note_in d b = cond (is_of d.log (length d.bytes)) (kept (noted_all d (slot_records b)) (Ok tt)) (kept d (Err other_length))
 
 -- ---- no rule: a record as the code writes it, proved equal to the above (proofs/Records.antt)
 

@@ -1,28 +1,27 @@
 -- Records copied out of the log, oldest first and whole (02, E1). Assumes nothing.
-use Rattle.std.specs.Prelude.{cond, List, ℕ, zero, suc, ◌+◌, ◌-◌, eqb, ltb, leb, length}
+use Rattle.std.specs.Prelude.{cond, List, ℕ, zero, suc, ◌+◌, ◌-◌, eqb, ltb, leb, length, Result, Ok, Err}
 use Rattle.std.proofs.lemmas.List.Edits.{sets}
 use Rattle.buslog.specs.declared.log.Log.{Log}
-use Rattle.buslog.specs.declared.log.Said.{Said}
-use Rattle.buslog.specs.declared.log.Said.TheVariants.{Done, OtherLength, NoRecord, NoRoom}
-use Rattle.buslog.specs.declared.log.Copied.{Copied}
+use Rattle.buslog.specs.declared.log.ReadError.{ReadError}
+use Rattle.buslog.specs.declared.log.ReadError.TheVariants.{OtherLength, NoRecord, NoRoom}
 use Rattle.buslog.specs.Log.{is_of}
 use Rattle.buslog.specs.Ring.{Ring, ring, bytes_from, size_of_oldest, without}
 
--- a lent buffer, and what a call that copies into it gives
+-- a lent buffer, and what a call that copies into it gives: how many bytes it copied, or why none
 pub record Copying : Type 0 where
   pub out : List ℕ
-  pub copied : Copied
+  pub copied : Result ℕ ReadError
 
-abbrev pub copying : List ℕ → Copied → Copying
+abbrev pub copying : List ℕ → Result ℕ ReadError → Copying
 copying out c = record { out = out; copied = c }
 
 -- nothing copied
-abbrev pub saying : Said → Copied
-saying s = record { used = 0; said = s }
+abbrev pub saying : ReadError → Result ℕ ReadError
+saying e = Err e
 
 -- the first n bytes that are held
 unfoldable pub copy_of : ℕ → Ring → List ℕ → Copying
-copy_of n d out = copying (sets out 0 (bytes_from d 0 n)) (record { used = n; said = Done })
+copy_of n d out = copying (sets out 0 (bytes_from d 0 n)) (Ok n)
 
 -- how many bytes the records take, from the oldest on, as far as whole ones fit into n
 unfoldable pub fitting_from : ℕ → List ℕ → ℕ → Log → ℕ

@@ -6,6 +6,8 @@ use Rattle.wire.specs.declared.pair.WrongPair.{WrongPair}
 use Rattle.wire.specs.declared.part.Telegram.{Telegram}
 use Rattle.station.specs.Events.{Word, owns, taken, failed, free, given, answer}
 use Rattle.bus.specs.Events.{Line}
+use Rattle.buslog.specs.declared.record.Tag.{Tag}
+use Rattle.buslog.specs.declared.record.Tag.TheVariants.{Owns, Taken, Failed, Free, Given, Answer}
 
 -- 1 to 6 in the order in which 01 names the words
 abbrev pub tag_of : Word → ℕ
@@ -47,6 +49,15 @@ unfoldable pub record_of : Line → List ℕ
 record_of l = tag_of l.event.word ∷ length (value_of l) / 256 ∷ length (value_of l) % 256 ∷ value_of l
 
 -- ---- no rule: a record as the code writes it, proved equal to the above (proofs/Records.antt)
+
+-- the word of a tag in the code
+abbrev pub tagged : Tag → Word
+tagged Owns = owns
+tagged Taken = taken
+tagged Failed = failed
+tagged Free = free
+tagged Given = given
+tagged Answer = answer
 
 -- what stands before the other values, of which there are so many
 unfoldable pub head_of : ℕ → ℕ → ℕ → ℕ → List ℕ

@@ -1,11 +1,10 @@
 // The log beside its buffer: set up, emptied, and which buffer is its own.
 ghost use Rattle.std.specs.Prelude.{◌≡◌, length};
-ghost use Rattle.buslog.specs.Log.{fresh_for, set_up_for, is_of, emptied};
+ghost use Rattle.buslog.specs.Log.{fresh_for, within_limits, set_up_for, is_of, emptied};
 ghost use Rattle.buslog.specs.Ring.{ring};
-ghost use Rattle.buslog.specs.Note.{keeping, note_in};
+ghost use Rattle.buslog.specs.Note.{kept, note_in};
 ghost use Rattle.buslog.specs.Read.{copying, read_into, record_into};
 
-use crate::{note, read};
 use bus::bus::Bus;
 
 #[derive(Clone, Copy)]
@@ -18,18 +17,17 @@ pub struct Log {
     pub room: usize,
 }
 
-#[derive(Clone, Copy)]
-pub enum SetUp {
-    Ready(Log),
-    // 16: the buffer's length is outside the limits.
-    BadLength,
-}
+// 16: the buffer's length is outside the limits.
+#[derive(Clone, Copy, PartialEq, Eq, Debug)]
+pub struct BadLength;
 
-// What a later call says.
-#[derive(Clone, Copy)]
-pub enum Said {
-    Done,
-    // It was lent a buffer of another length than at set-up.
+// A later call was lent a buffer of another length than at set-up.
+#[derive(Clone, Copy, PartialEq, Eq, Debug)]
+pub struct OtherLength;
+
+// Why nothing was copied.
+#[derive(Clone, Copy, PartialEq, Eq, Debug)]
+pub enum ReadError {
     OtherLength,
     // There is no such record.
     NoRecord,
@@ -37,28 +35,20 @@ pub enum Said {
     NoRoom,
 }
 
-// The log after a call, and what the call says.
-#[derive(Clone, Copy)]
-pub struct Kept {
-    pub log: Log,
-    pub said: Said,
-}
-
-// How many bytes were copied, and what the call says.
-#[derive(Clone, Copy)]
-pub struct Copied {
-    pub used: usize,
-    pub said: Said,
-}
-
-fn fresh(n: usize) -> Log
-    ensures { result ≡ fresh_for n }
+fn fresh(room: usize) -> Log
+    ensures { result ≡ fresh_for room }
 {
     Log {
         start: 0,
         held: 0,
-        room: n,
+        room,
     }
+}
+
+fn within_limits(n: usize) -> bool
+    ensures { result ≡ within_limits n }
+{
+    Log::FEWEST <= n && n <= Log::MOST
 }
 
 impl Log {
@@ -66,16 +56,14 @@ impl Log {
 
     pub const MOST: usize = 65536;
 
-    pub fn set_up(bytes: &[u8]) -> SetUp
+    pub fn set_up(bytes: &[u8]) -> Result<Log, BadLength>
         ensures { result ≡ set_up_for (length bytes.now) }
     {
         let n = bytes.len();
-        if n < Log::FEWEST {
-            SetUp::BadLength
-        } else if Log::MOST < n {
-            SetUp::BadLength
+        if within_limits(n) {
+            Ok(fresh(n))
         } else {
-            SetUp::Ready(fresh(n))
+            Err(BadLength)
         }
     }
 
@@ -83,19 +71,7 @@ impl Log {
     pub fn is_of(self, n: usize) -> bool
         ensures { result ≡ is_of self n }
     {
-        if self.room == n {
-            if n < Log::FEWEST {
-                false
-            } else if Log::MOST < n {
-                false
-            } else if self.start < n {
-                self.held <= n
-            } else {
-                false
-            }
-        } else {
-            false
-        }
+        self.room == n && within_limits(n) && self.start < n && self.held <= n
     }
 
     pub fn emptied(self) -> Log
@@ -105,43 +81,35 @@ impl Log {
     }
 
     // Notes what a slot told.
-    pub fn note(self, bytes: &mut [u8], b: Bus) -> Kept
-        ensures { keeping bytes.new result ≡ note_in (ring bytes.old self) b }
+    pub fn note(&mut self, bytes: &mut [u8], b: Bus) -> Result<(), OtherLength>
+        ensures { kept (ring bytes.new self.new) result ≡ note_in (ring bytes.old self.old) b }
     {
-        if self.is_of(bytes.len()) {
-            Kept {
-                log: note::slot(self, bytes, b),
-                said: Said::Done,
-            }
-        } else {
-            Kept {
-                log: self,
-                said: Said::OtherLength,
-            }
+        if !self.is_of(bytes.len()) {
+            return Err(OtherLength);
         }
+        self.note_slot(bytes, b);
+        Ok(())
     }
 
-    // Copies the records, oldest first, as far as whole ones fit.
-    pub fn read(self, bytes: &[u8], out: &mut [u8]) -> Copied
+    // Copies the records, oldest first, as far as whole ones fit, and says how many bytes they have.
+    pub fn read(self, bytes: &[u8], out: &mut [u8]) -> Result<usize, ReadError>
         ensures { copying out.new result ≡ read_into (ring bytes.now self) out.old }
     {
-        if self.is_of(bytes.len()) {
-            let n = read::fitting(self, bytes, out.len());
-            read::copy(self, bytes, n, out)
-        } else {
-            read::nothing(Said::OtherLength)
+        if !self.is_of(bytes.len()) {
+            return Err(ReadError::OtherLength);
         }
+        let n = self.fitting(bytes, out.len());
+        self.copy(bytes, n, out);
+        Ok(n)
     }
 
-    // Copies the k-th record, counted from 0, the oldest.
-    pub fn record(self, bytes: &[u8], k: usize, out: &mut [u8]) -> Copied
+    // Copies the k-th record, counted from 0, the oldest, and says how many bytes it has.
+    pub fn record(self, bytes: &[u8], k: usize, out: &mut [u8]) -> Result<usize, ReadError>
         ensures { copying out.new result ≡ record_into (ring bytes.now self) k out.old }
     {
-        if self.is_of(bytes.len()) {
-            let rest = read::after(self, bytes, k);
-            read::oldest(rest, bytes, out)
-        } else {
-            read::nothing(Said::OtherLength)
+        if !self.is_of(bytes.len()) {
+            return Err(ReadError::OtherLength);
         }
+        self.after(bytes, k).oldest(bytes, out)
     }
 }

@@ -1,53 +1,10 @@
 // Records copied out of the ring, oldest first and whole. A walk over the records is a log of what is left to walk.
 ghost use Rattle.std.specs.Prelude.{◌≡◌, set};
-ghost use Rattle.buslog.specs.Ring.{ring};
-ghost use Rattle.buslog.specs.Read.{copying, fitting_in, rest_after, copy_of, saying, oldest_into};
+ghost use Rattle.std.proofs.lemmas.List.Edits.{sets};
+ghost use Rattle.buslog.specs.Ring.{ring, bytes_from};
+ghost use Rattle.buslog.specs.Read.{copying, fitting_in, rest_after, oldest_into};
 
-use crate::log::{Copied, Log, Said};
-use crate::ring;
-
-pub(crate) fn nothing(said: Said) -> Copied
-    ensures { result ≡ saying said }
-{
-    Copied {
-        used: 0,
-        said: said,
-    }
-}
-
-// How many bytes the records take, from the oldest on, as far as whole ones fit into n.
-pub(crate) fn fitting(l: Log, bytes: &[u8], n: usize) -> usize
-    ensures { result ≡ fitting_in bytes.now n l }
-{
-    let mut rest = l;
-    let mut used: usize = 0;
-    while 0 < rest.held {
-        let size = ring::size_of_oldest(rest, bytes);
-        if size <= n - used {
-            used += size;
-            rest = ring::without(rest, size);
-        } else {
-            return used;
-        }
-    }
-    used
-}
-
-// What is left behind k records.
-pub(crate) fn after(l: Log, bytes: &[u8], k: usize) -> Log
-    ensures { result ≡ rest_after k bytes.now l }
-{
-    let mut rest = l;
-    let mut i: usize = 0;
-    while i < k {
-        if rest.held == 0 {
-            return rest;
-        }
-        rest = ring::without(rest, ring::size_of_oldest(rest, bytes));
-        i += 1;
-    }
-    rest
-}
+use crate::log::{Log, ReadError};
 
 // A byte at a place of the buffer; past its end there is none.
 fn lay(out: &mut [u8], i: usize, b: u8)
@@ -58,33 +15,61 @@ fn lay(out: &mut [u8], i: usize, b: u8)
     }
 }
 
-// The first n bytes that are held.
-pub(crate) fn copy(l: Log, bytes: &[u8], n: usize, out: &mut [u8]) -> Copied
-    ensures { copying out.new result ≡ copy_of n (ring bytes.now l) out.old }
-{
-    let mut i: usize = 0;
-    while i < n {
-        lay(out, i, ring::byte_at(l, bytes, i));
-        i += 1;
-    }
-    Copied {
-        used: n,
-        said: Said::Done,
-    }
-}
-
-// The oldest record, whole.
-pub(crate) fn oldest(l: Log, bytes: &[u8], out: &mut [u8]) -> Copied
-    ensures { copying out.new result ≡ oldest_into (ring bytes.now l) out.old }
-{
-    if l.held == 0 {
-        nothing(Said::NoRecord)
-    } else {
-        let n = ring::size_of_oldest(l, bytes);
-        if n <= out.len() {
-            copy(l, bytes, n, out)
-        } else {
-            nothing(Said::NoRoom)
+impl Log {
+    // How many bytes the records take, from the oldest on, as far as whole ones fit into n.
+    pub(crate) fn fitting(self, bytes: &[u8], n: usize) -> usize
+        ensures { result ≡ fitting_in bytes.now n self }
+    {
+        let mut rest = self;
+        let mut used = 0;
+        // No `for`: each record says how long it is.
+        while 0 < rest.held {
+            let size = rest.size_of_oldest(bytes);
+            if n - used < size {
+                return used;
+            }
+            used += size;
+            rest = rest.without(size);
         }
+        used
+    }
+
+    // What is left behind k records.
+    pub(crate) fn after(self, bytes: &[u8], k: usize) -> Log
+        ensures { result ≡ rest_after k bytes.now self }
+    {
+        let mut rest = self;
+        for _ in 0..k {
+            if rest.held == 0 {
+                return rest;
+            }
+            rest.drop_oldest(bytes);
+        }
+        rest
+    }
+
+    // The first n bytes that are held, as far as there is room for them.
+    pub(crate) fn copy(self, bytes: &[u8], n: usize, out: &mut [u8])
+        ensures { out.new ≡ sets out.old 0 (bytes_from (ring bytes.now self) 0 n) }
+    {
+        // By number: it is the place in the ring and in `out`; the definition `sets` is total past `out`'s end, as `lay` is.
+        for i in 0..n {
+            lay(out, i, self.byte_at(bytes, i));
+        }
+    }
+
+    // The oldest record, whole.
+    pub(crate) fn oldest(self, bytes: &[u8], out: &mut [u8]) -> Result<usize, ReadError>
+        ensures { copying out.new result ≡ oldest_into (ring bytes.now self) out.old }
+    {
+        if self.held == 0 {
+            return Err(ReadError::NoRecord);
+        }
+        let n = self.size_of_oldest(bytes);
+        if out.len() < n {
+            return Err(ReadError::NoRoom);
+        }
+        self.copy(bytes, n, out);
+        Ok(n)
     }
 }

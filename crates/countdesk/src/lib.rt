@@ -1,73 +1,67 @@
 // A scenario from a reader, and its counts to a writer.
 #![tactic(auto)]
 
-ghost use Rattle.std.specs.Prelude.{◌≡◌, ◌≢◌, IfErr, OnOk};
+ghost use Rattle.std.specs.Prelude.{◌≡◌, ◌≢◌, Option, Some, None, IfErr, OnOk};
 ghost use Rattle.std.specs.Io.KnownBytes.{Appends, Keeps};
 ghost use Rattle.walk.specs.Form.{form_of};
 ghost use Rattle.tally.specs.Ask.{question_of};
 ghost use Rattle.tally.specs.Output.{counts_output};
 ghost use Rattle.desk.specs.Playing.{Plays, IsOfOutput, Leaves};
 
-use desk::{Failure, INPUT};
-use scenario::pen::ROOM;
+use desk::{Failure, Input};
+use scenario::pen::Pen;
 use std::io::{Read, Write};
 use tally::ask::Question;
-use walk::form::Form;
 
 // A scenario that is one is followed to its end; the buffer has room for all that is asked.
 fn answer<W: Write>(q: Question, s: &[u8], to: &mut W) -> Result<(), Failure>
-    ensures ok { form_of s.now ≡ Form.Good → q ≢ Question.Unreadable
-        → OnOk result (Appends (W.contents to.old) (W.contents to.new) (counts_output q s.now)) }
+    ensures ok { form_of s.now ≡ Ok tt → OnOk result (Appends (W.contents to.old) (W.contents to.new) (counts_output (Some q) s.now)) }
     ensures err { IfErr result IsOfOutput }
 {
-    let b = tally::follow::follow(s);
-    let mut out = [0u8; ROOM];
-    let used = tally::lines::text(&mut out, q, b);
-    desk::wrote(to, &out, used)
+    let book = tally::follow::follow(s);
+    let mut out = Pen::new();
+    tally::lines::text(&mut out, Some(q), &book);
+    desk::wrote(to, &out)
 }
 
 fn run<W: Write>(q: Question, s: &[u8], to: &mut W) -> Result<(), Failure>
-    ensures ok { q ≢ Question.Unreadable → OnOk result (Appends (W.contents to.old) (W.contents to.new) (counts_output q s.now)) }
+    ensures ok { OnOk result (Appends (W.contents to.old) (W.contents to.new) (counts_output (Some q) s.now)) }
     ensures err { IfErr result IsOfOutput }
 {
-    let f = walk::form::form_of(s);
-    match f {
-        Form::Good => answer(q, s, to),
-        Form::BadField(_) => desk::refuse(f, to),
-        Form::TooLong => desk::refuse(f, to),
+    match walk::form::form_of(s) {
+        Ok(()) => answer(q, s, to),
+        bad => desk::refuse(bad, to),
     }
 }
 
 fn run_read<R: Read, W: Write>(q: Question, from: &mut R, to: &mut W) -> Result<(), Failure>
-    ensures ok { q ≢ Question.Unreadable
-        → OnOk result (Plays (counts_output q) (R.remaining from.old) (R.remaining from.new) (W.contents to.old) (W.contents to.new)) }
+    ensures ok { OnOk result (Plays (counts_output (Some q)) (R.remaining from.old) (R.remaining from.new) (W.contents to.old) (W.contents to.new)) }
     ensures err { IfErr result (λ f. Leaves f (W.contents to.old) (W.contents to.new)) }
 {
-    let mut input = [0u8; INPUT];
-    let n = desk::read(from, &mut input).map_err(Failure::Input)?;
-    run(q, &input[..n], to)
+    let input = Input::read(from)?;
+    run(q, input.given(), to)
 }
 
+// In words of its own, as each program has them.
 pub fn usage(errors: &impl Print) {
     let _ = println!(errors; "usage: counts [QQ ZZ] < SCENARIO");
 }
 
-// The scenario that a reader gives. The question is looked at before anything is read.
+// The scenario that a reader gives. The question is looked at before anything is read; where there is none the usage is told.
 pub fn play<E: Print, R: Read, W: Write>(
     errors: &E,
-    q: Question,
+    q: Option<Question>,
     from: &mut R,
     to: &mut W,
 ) -> Result<(), Failure>
-    ensures unasked { q ≡ Question.Unreadable → Keeps (W.contents to.old) (W.contents to.new) }
-    ensures asked { q ≢ Question.Unreadable
+    ensures unasked { q ≡ None → Keeps (W.contents to.old) (W.contents to.new) }
+    ensures asked { q ≢ None
         → OnOk result (Plays (counts_output q) (R.remaining from.old) (R.remaining from.new) (W.contents to.old) (W.contents to.new)) }
     ensures err { IfErr result (λ f. Leaves f (W.contents to.old) (W.contents to.new)) }
 {
     match q {
-        Question::All => run_read(q, from, to),
-        Question::Pair(_, _) => run_read(q, from, to),
-        Question::Unreadable => {
+        Some(q) => run_read(q, from, to),
+        None => {
             usage(errors);
             Ok(())
         }
@@ -82,7 +76,7 @@ pub fn play_as<E: Print, R: Read, W: Write>(
     from: &mut R,
     to: &mut W,
 ) -> Result<(), Failure>
-    ensures ok { question_of first.now second.now ≢ Question.Unreadable
+    ensures ok { question_of first.now second.now ≢ None
         → OnOk result (Plays (counts_output (question_of first.now second.now)) (R.remaining from.old) (R.remaining from.new) (W.contents to.old) (W.contents to.new)) }
     ensures err { IfErr result (λ f. Leaves f (W.contents to.old) (W.contents to.new)) }
 {

@@ -1,38 +1,35 @@
 // The program `counts [QQ ZZ] < SCENARIO`: how many transfers of each pair, or of one, were taken and failed.
 #![tactic(auto)]
 
-use desk::arguments::WORD;
+use desk::arguments::Word;
 use desk::{Failure, arguments, failure};
 use std::process::ExitCode;
 use tally::ask::Question;
 
 fn main(rt: HostRuntime) -> ExitCode {
-    let n = arguments::count(&rt);
-    if n == 1 {
-        let done = countdesk::play(
+    let done = match arguments::count(&rt) {
+        1 => countdesk::play(
             &rt.stderr(),
-            Question::All,
+            Some(Question::All),
             &mut rt.stdin(),
             &mut rt.stdout(),
-        );
-        failure::status(&rt.stderr(), done)
-    } else if n == 3 {
-        failure::status(&rt.stderr(), count_pair(rt))
-    } else {
-        countdesk::usage(&rt.stderr());
-        ExitCode::SUCCESS
-    }
+        ),
+        3 => count_pair(rt),
+        _ => {
+            countdesk::usage(&rt.stderr());
+            Ok(())
+        }
+    };
+    failure::status(&rt.stderr(), done)
 }
 
 fn count_pair(rt: HostRuntime) -> Result<(), Failure> {
-    let mut first = [0u8; WORD];
-    let mut second = [0u8; WORD];
-    let f = arguments::get(&rt, 1, &mut first);
-    let s = arguments::get(&rt, 2, &mut second);
+    let source = Word::get(&rt, 1);
+    let destination = Word::get(&rt, 2);
     countdesk::play_as(
         &rt.stderr(),
-        &first[..f],
-        &second[..s],
+        source.given(),
+        destination.given(),
         &mut rt.stdin(),
         &mut rt.stdout(),
     )

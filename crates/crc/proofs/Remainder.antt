@@ -10,7 +10,8 @@ use lib.ListN.{get_or}
 use Rattle.crc.specs.Crc.{polynomial, times_x, times_xⁿ, crc_step, crc_from, crc_of}
 use Rattle.crc.specs.Remainder.{joined, multiple, Leaves}
 use Rattle.crc.proofs.Bytes.{step_byte}
-use Rattle.crc.proofs.Xor.{xor_assoc, xor_both, xor_up}
+use Rattle.std.specs.Int.Bits.{xor_assoc}
+use Rattle.crc.proofs.Xor.{xor_both, xor_up}
 
 -- the quotient's next bit: the one that falls out
 out : ℕ → Bool

@@ -11,7 +11,7 @@ const POLYNOMIAL: u16 = 0b1_1001_1011;
 fn times_x(register: u8) -> u8
     ensures { result ≡ times_x register }
 {
-    let shifted: u16 = (register as u16) << 1;
+    let shifted = u16::from(register) << 1;
     if shifted < 256 {
         shifted as u8
     } else {
@@ -23,11 +23,9 @@ fn times_x(register: u8) -> u8
 pub fn step(register: u8, symbol: u8) -> u8
     ensures { result ≡ crc_step register symbol }
 {
-    let mut reduced: u8 = register;
-    let mut steps: u8 = 8;
-    while steps > 0 {
+    let mut reduced = register;
+    for _ in 0..8u8 {
         reduced = times_x(reduced);
-        steps -= 1;
     }
     reduced ^ symbol
 }
@@ -36,11 +34,7 @@ pub fn step(register: u8, symbol: u8) -> u8
 pub fn of(symbols: &[u8]) -> u8
     ensures { result ≡ crc_of symbols.now }
 {
-    let mut register: u8 = 0;
-    let mut i: usize = 0;
-    while i < symbols.len() {
-        register = step(register, symbols[i]);
-        i += 1;
-    }
-    register
+    symbols
+        .iter()
+        .fold(0, |register, &symbol| step(register, symbol))
 }

@@ -1,8 +1,13 @@
--- What stands at a buffer's start after a text was put there. Assumes nothing.
-use Rattle.std.proofs.Common.{◌≡◌, ℕ, ◌≤◌, List, length, take, sym, subst}
-use Rattle.scenario.specs.Pen.{Pen, pen, penned, room}
+-- What a text is that was put into an empty buffer. Assumes nothing.
+use Rattle.std.proofs.Common.{◌≡◌, ℕ, ◌≤◌, List, length, take, replicate}
+use Rattle.scenario.specs.declared.pen.Pen.{Pen}
+use Rattle.scenario.specs.Pen.{penned, room, blank}
 use Rattle.scenario.proofs.Fills.{written_bytes}
+use Rattle.scenario.proofs.Written.{blank_whole}
 
-pub text_put : (buffer text page : List ℕ) (used : ℕ) → length buffer ≡ room → length text ≤ room → pen page used ≡ penned (pen buffer 0) text
-    → take used page ≡ text
-text_put buffer text page used whole fits e = subst (λ (q : Pen). take q.at q.page ≡ text) (sym e) (written_bytes buffer text whole fits)
+text_first : (text : List ℕ) → length text ≤ room → take (penned blank text).at (penned blank text).page ≡ text
+unfolding blank
+text_first text fits = written_bytes (replicate room 0) text blank_whole fits
+
+pub text_put : (text : List ℕ) {p q : Pen} → p ≡ blank → q ≡ penned p text → length text ≤ room → take q.at q.page ≡ text
+text_put text b e fits = rw (e, b) (text_first text fits)

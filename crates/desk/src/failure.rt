@@ -1,4 +1,7 @@
 // What ends a run before its end: its input cannot be read, or its output cannot be written.
+ghost use Rattle.std.specs.Prelude.{◌≡◌};
+ghost use Rattle.desk.specs.Playing.{is_of_output};
+
 use std::io;
 use std::process::ExitCode;
 
@@ -10,11 +13,10 @@ pub enum Failure {
 
 impl Failure {
     // After it nothing more can be written.
-    pub fn is_of_output(self) -> bool {
-        match self {
-            Failure::Input(_) => false,
-            Failure::Output(_) => true,
-        }
+    pub fn is_of_output(self) -> bool
+        ensures { result ≡ is_of_output self }
+    {
+        matches!(self, Failure::Output(_))
     }
 
     // One line, for standard error: what failed and why. `name` is what it calls the input.

@@ -1,5 +1,5 @@
 -- A fill of the buffer, a record at a time. Assumes nothing.
-use mathlib.Core.Path.{◌≡◌, refl, sym, ◌∙◌}
+use mathlib.Core.Path.{◌≡◌, refl, sym, ap, ◌∙◌}
 use mathlib.Core.Bool.{Bool, true, false, cond}
 use mathlib.Core.List.{List}
 use Prim.Native.Nat.{ℕ, zero, suc, ◌+◌, ◌-◌, ◌≤◌, ◌<◌}
@@ -7,10 +7,11 @@ use native.Mathlib.Omega.{arith}
 use borrow.Author.Tests.{lt-ltb, le-ltb}
 use lib.Dec.{ltb}
 use lib.ListN.{length, take, drop}
-use Rattle.scenario.specs.Pen.{Pen, pen, penned, room}
+use Rattle.scenario.specs.declared.pen.Pen.{Pen}
+use Rattle.scenario.specs.Pen.{pen, penned, room}
 use Rattle.diary.specs.Fill.{line_room, Fill, filling, filled_from, filled}
 use Rattle.diary.specs.Lines.{record_line, size_of}
-use Rattle.diary.proofs.Sizes.{some_there}
+use Rattle.diary.proofs.Sizes.{size_left, some_there, found_some, found_most}
 
 -- enough turns for what is left from a place on, and where they come to
 pub record FillsTo (held : List ℕ) (at : ℕ) (q : Pen) (r : Fill) : Type 0 where
@@ -56,6 +57,13 @@ module _ {held : List ℕ} {at : ℕ} {q : Pen} {r : Fill} (f : FillsTo held at 
             comes = rw (m, s) (sym (simp (lt-ltb at (length held) h, le-ltb (room - line_room) q.at l)) ∙ w);
           }
 
+  -- the same of what the code finds and cuts
+  pub found_on : {size : ℕ} {more : Pen} → at < length held → q.at ≤ room - line_room → size ≡ size_of (take (length held - at) (drop at held))
+      → more ≡ penned q (record_line (take (at + size - at) (drop at held))) → FillsTo held (at + size) more r
+  found_on {size} h l s m =
+      let same : at + size - at ≡ size = omega arith in
+      fills_on h l (s ∙ size_left held at) (m ∙ ap (λ (n : ℕ). penned q (record_line (take n (drop at held)))) same)
+
 -- ---- a fill gets on
 
 never_back : (k : ℕ) (held : List ℕ) (at : ℕ) (q : Pen) → at ≤ (filled_from k held at q).next
@@ -89,3 +97,6 @@ gets_on held at buffer l = go (length held - at) (omega arith)
     go (suc k) h =
         simp (lt-ltb at (length held) l)
         (omega (arith, some_there held at l, never_back k held (at + size) (penned (pen buffer 0) (record_line (take size (drop at held))))))
+
+-- for the search
+pub ruleset record_filled = (found_some, found_most, fills_first, found_on)

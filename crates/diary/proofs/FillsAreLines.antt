@@ -9,7 +9,8 @@ use lib.Dec.{ltb}
 use lib.ListN.{length, take, drop, length-append, length-drop}
 use lib.Seq.{drop-drop}
 use Rattle.laws.proofs.FirstIs.{Every, next}
-use Rattle.scenario.specs.Pen.{Pen, pen, penned, room}
+use Rattle.scenario.specs.declared.pen.Pen.{Pen}
+use Rattle.scenario.specs.Pen.{pen, penned, room}
 use Rattle.scenario.proofs.Fills.{place_is, written_bytes, same_length}
 use Rattle.scenario.proofs.Written.{penned_append}
 use Rattle.bus.specs.Events.{Line}

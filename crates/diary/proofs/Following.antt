@@ -1,48 +1,50 @@
--- A scenario followed, a moment at a time. Assumes nothing.
+-- A scenario followed with a log: noted are the slots that told somebody something, one after the other. Assumes nothing.
 use mathlib.Core.Path.{◌≡◌, refl, sym, ◌∙◌}
-use mathlib.Core.Bool.{true, false}
-use mathlib.Core.List.{List}
-use Prim.Native.Nat.{ℕ, zero, suc, ◌<◌}
-use native.Mathlib.Omega.{arith}
+use mathlib.Core.Bool.{Bool, true, false, cond, true≢false}
+use mathlib.Core.List.{List, []}
+use Prim.Native.Nat.{ℕ, zero, suc}
 use Rattle.bus.specs.Bus.{powered_on}
 use Rattle.bus.specs.declared.bus.Bus.{Bus}
-use Rattle.walk.specs.Field.{Bytes}
+use Rattle.walk.specs.Follow.{told_at, told_from, told_on}
 use Rattle.walk.specs.Walk.{before, is_end, to_go, walked}
+use Rattle.walk.specs.declared.walk.Moment.{Moment}
+use Rattle.walk.specs.declared.walk.Moment.TheVariants.{Called, Told, Passed, Ended}
 use Rattle.walk.specs.declared.walk.Place.{Place}
-use Rattle.walk.specs.declared.walk.Step.{Step}
-use Rattle.walk.proofs.Going.{walked_nearer}
+use Rattle.walk.specs.Walk.{Step}
 use Rattle.buslog.specs.Ring.{Ring}
+use Rattle.buslog.specs.Slots.{noted_slots}
 use Rattle.diary.specs.Follow.{noted_at, followed_from, followed}
 
--- enough turns for what is to go from a place on, and where they come to
-pub record FollowsTo (b : Bus) (p : Place) (s : List ℕ) (d r : Ring) : Type 0 where
-  pub turns : ℕ
-  pub enough : to_go p s < turns
-  pub comes : followed_from turns b p s d ≡ r
+-- one moment, and then others
+noted_told : (m : Moment) (b : Bus) (d : Ring) (rest : List Bus) → noted_slots (noted_at m b d) rest ≡ noted_slots d (told_at m b rest)
+unfolding noted_slots
+noted_told (Called v) b d rest = refl
+noted_told Told b d rest = refl
+noted_told Passed b d rest = refl
+noted_told Ended b d rest = refl
 
-pub follows_first : {b : Bus} {p : Place} (s : List ℕ) (d : Ring) → b ≡ powered_on → p ≡ before 0 → FollowsTo b p s d (followed d s)
-unfolding followed
-follows_first s d e f = rw (e, f) (record { turns = suc (to_go (before 0) s); enough = omega arith; comes = refl })
+-- the end notes nothing
+noted_end : (m : Moment) (b : Bus) (d : Ring) → is_end m ≡ true → noted_at m b d ≡ d
+noted_end (Called v) b d e = refl
+noted_end Told b d e = absurd (true≢false (sym e))
+noted_end Passed b d e = refl
+noted_end Ended b d e = refl
 
--- the scenario is over
-pub follows_end : {b : Bus} {p : Place} {s : List ℕ} {d more r : Ring} {n : Step} → FollowsTo b p s d r
-    → walked b p s false ≡ n → is_end n.moment ≡ true → more ≡ noted_at n.moment n.bus d → more ≡ r
-unfolding followed_from
-follows_end {b} {p} {s} {d} {more} {r} {n} f e g m = go f.turns f.enough f.comes
+follows_from : (k : ℕ) (b : Bus) (p : Place) (s : List ℕ) (d : Ring) → followed_from k b p s d ≡ noted_slots d (told_from k b p s)
+unfolding followed_from told_from noted_slots
+follows_from zero b p s d = refl
+follows_from (suc k) b p s d = go (is_end n.moment) refl (follows_from k n.bus n.place s (noted_at n.moment n.bus d))
   where
-    go : (k : ℕ) → to_go p s < k → followed_from k b p s d ≡ r → more ≡ r
-    go zero l w = absurd (omega arith)
-    go (suc k) l w = rw m (sym (simp (e, g)) ∙ w)
+    n : Step
+    n = walked b p s false
 
--- a moment more
-pub follows_on : {b : Bus} {p : Place} {s : List ℕ} {d more r : Ring} {n : Step} → Bytes s → FollowsTo b p s d r
-    → walked b p s false ≡ n → is_end n.moment ≡ false → more ≡ noted_at n.moment n.bus d → FollowsTo n.bus n.place s more r
-unfolding followed_from
-follows_on {b} {p} {s} {d} {more} {r} {n} bytes f e g m = go f.turns f.enough f.comes
-  where
-    near : to_go n.place s < to_go p s
-    near = rw e at (walked_nearer b p s false bytes (rw e g))
+    go : (t : Bool) → is_end n.moment ≡ t
+        → followed_from k n.bus n.place s (noted_at n.moment n.bus d) ≡ noted_slots (noted_at n.moment n.bus d) (told_from k n.bus n.place s)
+        → cond t (noted_at n.moment n.bus d) (followed_from k n.bus n.place s (noted_at n.moment n.bus d))
+        ≡ noted_slots d (cond t [] (told_at n.moment n.bus (told_from k n.bus n.place s)))
+    go true e h = noted_end n.moment n.bus d e
+    go false e h = h ∙ noted_told n.moment n.bus d (told_from k n.bus n.place s)
 
-    go : (k : ℕ) → to_go p s < k → followed_from k b p s d ≡ r → FollowsTo n.bus n.place s more r
-    go zero l w = absurd (omega arith)
-    go (suc k) l w = record { turns = k; enough = omega (arith, near); comes = rw m (sym (simp (e, g)) ∙ w) }
+pub follows_told : (s : List ℕ) (d : Ring) → followed d s ≡ noted_slots d (told_on powered_on (before 0) s)
+unfolding followed told_on
+follows_told s d = follows_from (suc (to_go (before 0) s)) powered_on (before 0) s d

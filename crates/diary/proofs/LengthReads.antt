@@ -14,8 +14,7 @@ use Rattle.laws.proofs.FirstIs.{Every, none, next}
 use Rattle.scenario.specs.Pen.{last_digit, digits_of, decimal_text}
 use Rattle.scenario.specs.ReadBack.{decimal_digit, read_decimal}
 use Rattle.scenario.proofs.ReadsBack.{decimal_reads_back}
-use Rattle.diary.specs.declared.length.Length.{Length}
-use Rattle.diary.specs.declared.length.Length.TheVariants.{Of, Unreadable}
+use Rattle.std.specs.Prelude.{Option, Some, None}
 use Rattle.diary.specs.Length.{past, is_digit, all_digits, number_from, length_of}
 
 -- ---- digits and nothing else
@@ -41,17 +40,17 @@ digits_each (c ∷ cs) e = go (is_digit c) refl (digits_each cs) e
     go true p on f = next (is_digit_lem c p) (on f)
     go false p on f = absurd (false≢true f)
 
-abbrev is_of : Length → Bool
-is_of (Of n) = true
-is_of Unreadable = false
+abbrev is_of : Option ℕ → Bool
+is_of (Some n) = true
+is_of None = false
 
 -- whoever is read a length from gave digits, at least one
-pub only_digits : (s : List ℕ) (n : ℕ) → length_of s ≡ Of n → (length s ≢ 0) × Every Digit s
+pub only_digits : (s : List ℕ) (n : ℕ) → length_of s ≡ Some n → (length s ≢ 0) × Every Digit s
 unfolding length_of
 only_digits s n e = go (eqb (length s) 0) (all_digits s) refl refl (ap is_of e)
   where
     go : (t u : Bool) → eqb (length s) 0 ≡ t → all_digits s ≡ u
-        → is_of (cond t Unreadable (cond u (Of (at_most (number_from 0 s) past)) Unreadable)) ≡ true → (length s ≢ 0) × Every Digit s
+        → is_of (cond t None (cond u (Some (at_most (number_from 0 s) past)) None)) ≡ true → (length s ≢ 0) × Every Digit s
     go true u p q f = absurd (false≢true f)
     go false true p q f = (eqb-false (length s) 0 p, digits_each s q)
     go false false p q f = absurd (false≢true f)
@@ -100,7 +99,7 @@ some_text k n = go (ltb n 10)
     go false e = absurd (omega (arith, length-append (digits_of k (n / 10)) (last_digit n ∷ [])))
 
 -- the text of a number gives that number, kept to the limit
-pub length_reads_back : (n : ℕ) → n < 2 ^ 32 → length_of (decimal_text n) ≡ Of (at_most n past)
+pub length_reads_back : (n : ℕ) → n < 2 ^ 32 → length_of (decimal_text n) ≡ Some (at_most n past)
 unfolding length_of decimal_text
 length_reads_back n h =
     let read : number_from 0 (digits_of 10 n) ≡ n = number_read 0 (digits_of 10 n) (digits_each (digits_of 10 n) (text_digits 10 n)) ∙ decimal_reads_back n h in

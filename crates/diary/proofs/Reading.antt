@@ -5,18 +5,19 @@ use mathlib.Core.Logic.{◌≢◌}
 use mathlib.Core.List.{List, [], ◌∷◌}
 use Prim.Native.Nat.{ℕ, ◌+◌, ◌-◌, ◌*◌, ◌≤◌, ◌<◌}
 use native.Mathlib.Omega.{arith}
-use borrow.Author.Tests.{lt-ltb, le-ltb, ne_eqb}
+use borrow.Author.Tests.{ne_eqb}
+use Rattle.std.proofs.lemmas.Bool.Decides.{nat_tests}
+use Rattle.std.specs.Char.{is_ascii_digit}
 use lib.ListN.{length, get_or, drop, drop_of_length-le}
 use Rattle.laws.specs.AtMost.{at_most}
 use Rattle.laws.proofs.AtMost.{at_most_test}
 use Rattle.laws.proofs.Lists.{left_of}
-use Rattle.diary.specs.declared.length.Length.{Length}
-use Rattle.diary.specs.declared.length.Length.TheVariants.{Of, Unreadable}
+use Rattle.std.specs.Prelude.{Option, Some, None}
 use Rattle.diary.specs.Length.{past, is_digit, all_digits, number_from, length_of}
 
-unfoldable pub length_from : ℕ → List ℕ → Length
-length_from n [] = Of n
-length_from n (c ∷ cs) = let further = length_from (at_most (n * 10 + (c - 48)) past) cs in cond (is_digit c) further Unreadable
+unfoldable pub length_from : ℕ → List ℕ → Option ℕ
+length_from n [] = Some n
+length_from n (c ∷ cs) = let further = length_from (at_most (n * 10 + (c - 48)) past) cs in cond (is_digit c) further None
 
 -- ---- kept to the limit at each digit, or at the end
 
@@ -28,19 +29,19 @@ kept n d =
     at_most_test n past (λ (k : ℕ). at_most (k * 10 + d) past ≡ at_most (n * 10 + d) past) (λ h. refl)
     (λ h. kept_past (past * 10 + d) (omega arith) ∙ sym (kept_past (n * 10 + d) (omega arith)))
 
-read_is : (n : ℕ) (s : List ℕ) → length_from (at_most n past) s ≡ cond (all_digits s) (Of (at_most (number_from n s) past)) Unreadable
+read_is : (n : ℕ) (s : List ℕ) → length_from (at_most n past) s ≡ cond (all_digits s) (Some (at_most (number_from n s) past)) None
 unfolding length_from all_digits number_from
 read_is n [] = refl
 read_is n (c ∷ cs) = rw (kept n (c - 48)) (go (is_digit c) (read_is (n * 10 + (c - 48)) cs))
   where
-    rest : Length
+    rest : Option ℕ
     rest = length_from (at_most (n * 10 + (c - 48)) past) cs
 
     number : ℕ
     number = number_from (n * 10 + (c - 48)) cs
 
-    go : (t : Bool) → rest ≡ cond (all_digits cs) (Of (at_most number past)) Unreadable
-        → cond t rest Unreadable ≡ cond (cond t (all_digits cs) false) (Of (at_most number past)) Unreadable
+    go : (t : Bool) → rest ≡ cond (all_digits cs) (Some (at_most number past)) None
+        → cond t rest None ≡ cond (cond t (all_digits cs) false) (Some (at_most number past)) None
     go true e = e
     go false e = refl
 
@@ -50,29 +51,22 @@ read_first s h = simp (ne_eqb (length s) 0 h) (read_is 0 s)
 
 -- ---- a digit at a time
 
-pub too_low : (c : ℕ) → c < 48 → is_digit c ≡ false
+-- std's digits are 0 to 9
+pub digit_same : (c : ℕ) → is_ascii_digit c ≡ is_digit c
 unfolding is_digit
-too_low c h = simp (lt-ltb c 48 h)
-
-pub too_high : (c : ℕ) → 57 < c → is_digit c ≡ false
-unfolding is_digit
-too_high c h = simp (le-ltb c 48 (omega arith), lt-ltb 57 c h)
-
-pub a_digit : (c : ℕ) → 48 ≤ c → c ≤ 57 → is_digit c ≡ true
-unfolding is_digit
-a_digit c l h = simp (le-ltb c 48 l, le-ltb 57 c h)
+digit_same c = grind (arith, nat_tests)
 
 -- what is no digit ends it
-pub reads_no : (n i : ℕ) (s : List ℕ) {r : Length} → length_from n (drop i s) ≡ r → i < length s → is_digit (get_or s i 0) ≡ false → Unreadable ≡ r
+pub reads_no : (n i : ℕ) (s : List ℕ) {r : Option ℕ} → length_from n (drop i s) ≡ r → i < length s → is_digit (get_or s i 0) ≡ false → None ≡ r
 unfolding length_from
 reads_no n i s e h f = sym (simp f) ∙ sym (ap (λ (v : List ℕ). length_from n v) (left_of s i 0 h)) ∙ e
 
-pub reads_on : (n m i : ℕ) (s : List ℕ) {r : Length} → length_from n (drop i s) ≡ r → i < length s → is_digit (get_or s i 0) ≡ true
+pub reads_on : (n m i : ℕ) (s : List ℕ) {r : Option ℕ} → length_from n (drop i s) ≡ r → i < length s → is_digit (get_or s i 0) ≡ true
     → m ≡ at_most (n * 10 + (get_or s i 0 - 48)) past → length_from m (drop (i + 1) s) ≡ r
 unfolding length_from
 reads_on n m i s e h f g =
     ap (λ (k : ℕ). length_from k (drop (i + 1) s)) g ∙ sym (simp f) ∙ sym (ap (λ (v : List ℕ). length_from n v) (left_of s i 0 h)) ∙ e
 
-pub reads_end : (n i : ℕ) (s : List ℕ) {r : Length} → length_from n (drop i s) ≡ r → length s ≤ i → Of n ≡ r
+pub reads_end : (n i : ℕ) (s : List ℕ) {r : Option ℕ} → length_from n (drop i s) ≡ r → length s ≤ i → Some n ≡ r
 unfolding length_from
 reads_end n i s e h = sym (ap (λ (v : List ℕ). length_from n v) (drop_of_length-le s h)) ∙ e

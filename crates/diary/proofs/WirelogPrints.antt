@@ -12,19 +12,18 @@ use Rattle.bus.specs.declared.bus.Bus.{Bus}
 use Rattle.walk.specs.Field.{Bytes}
 use Rattle.walk.specs.Form.{form_of}
 use Rattle.walk.specs.Moments.{moments}
-use Rattle.walk.specs.declared.form.Form.{Form}
-use Rattle.walk.specs.declared.form.Form.TheVariants.{Good, BadField, TooLong}
+use Rattle.std.specs.Prelude.{Result, ⊤, Ok, Err}
+use Rattle.walk.specs.declared.form.FormError.{FormError}
+use Rattle.walk.specs.declared.form.FormError.TheVariants.{BadField, TooLong}
 use Rattle.buslog.specs.Fitting.{fitting_run}
 use Rattle.bus.specs.Events.{Line}
 use Rattle.buslog.specs.Latest.{joined, longest_run, all_lines}
-use Rattle.buslog.specs.Log.{within_limits, fresh_for, set_up_for}
+use Rattle.buslog.specs.Log.{within_limits, fresh_for, bad_length, set_up_for}
 use Rattle.buslog.specs.Read.{Copying, copying, read_into}
 use Rattle.buslog.specs.Record.{record_of}
 use Rattle.buslog.specs.Ring.{Ring, ring, held_bytes}
 use Rattle.buslog.specs.Roomy.{AllRoomy}
 use Rattle.buslog.specs.Sound.{Sound}
-use Rattle.buslog.specs.declared.log.Said.TheVariants.{Done}
-use Rattle.buslog.specs.declared.log.SetUp.TheVariants.{Ready, BadLength}
 use Rattle.buslog.proofs.Formed.{Short28}
 use Rattle.buslog.proofs.HoldsTheLatest.{log_after, log_holds_the_latest, log_stays_sound, longest_of_all}
 use Rattle.buslog.proofs.Longest.{length_first, goes_oldest_first, run_fits}
@@ -51,19 +50,23 @@ all_fit n (l ∷ ls) h =
     let first = length_first l ls in
     simp (le-leb (length (record_of l)) n (omega (arith, first)), all_fit (n - length (record_of l)) ls (omega (arith, first)))
 
-abbrev read_whole : List Line → List ℕ → Copying
-read_whole ls into = copying (joined ls ++ drop (length (joined ls)) into) (record { used = length (joined ls); said = Done })
+abbrev pub read_whole : List Line → List ℕ → Copying
+read_whole ls into = copying (joined ls ++ drop (length (joined ls)) into) (Ok (length (joined ls)))
 
-read_whole_lem : (d : Ring) (ls : List Line) (into : List ℕ) → Sound d → held_bytes d ≡ joined ls → length (joined ls) ≤ length into
+pub read_whole_lem : (d : Ring) (ls : List Line) (into : List ℕ) → Sound d → held_bytes d ≡ joined ls → length (joined ls) ≤ length into
     → read_into d into ≡ read_whole ls into
 read_whole_lem d ls into s e h =
     reads d ls into s e ∙ ap (λ (v : List Line). read_whole v into) (all_fit (length into) ls h)
 
 -- of the lines that are held none has more than 28 bytes
-held_short : (n : ℕ) (bs : List Bus) → AllRoomy bs → Every Short28 (longest_run n (all_lines bs))
+pub held_short : (n : ℕ) (bs : List Bus) → AllRoomy bs → Every Short28 (longest_run n (all_lines bs))
 held_short n bs rs =
     let gone = goes_oldest_first n (all_lines bs) in
     every_behind gone.0 (subst (λ (v : List Line). Every Short28 v) gone.1 (longest_of_all bs rs))
+
+-- the line of a bad length
+pub refused_most : length refused16 ≤ 40
+refused_most = omega (arith, length-append (refused_text ++ decimal_text 16) newline, length-append refused_text (decimal_text 16), decimal_most 16)
 
 -- ---- the log after a scenario
 
@@ -74,17 +77,17 @@ module _ (bytes s into buffer : List ℕ) (all : Bytes s) (whole : length buffer
   abbrev ls : List Line
   ls = held_lines (length bytes) s
 
-  ready : within_limits (length bytes) ≡ true → set_up_for (length bytes) ≡ Ready (fresh_for (length bytes))
+  ready : within_limits (length bytes) ≡ true → set_up_for (length bytes) ≡ Ok (fresh_for (length bytes))
   unfolding set_up_for
   ready w = simp w
 
-  refuses : within_limits (length bytes) ≡ false → set_up_for (length bytes) ≡ BadLength
+  refuses : within_limits (length bytes) ≡ false → set_up_for (length bytes) ≡ Err bad_length
   unfolding set_up_for
   refuses w = simp w
 
   -- played to its end
-  plays : within_limits (length bytes) ≡ true → form_of s ≡ Good → length (joined ls) ≤ length into
-      → Writes bytes s into buffer (logged_of Good (length bytes) s)
+  plays : within_limits (length bytes) ≡ true → form_of s ≡ Ok tt → length (joined ls) ≤ length into
+      → Writes bytes s into buffer (logged_of (Ok tt) (length bytes) s)
   plays w g h =
       let bs = told_buses (moments s) in
       let same : log_of bytes s ≡ log_after bytes bs = follows_the_moments s (ring bytes (fresh_for (length bytes))) all g in
@@ -102,14 +105,11 @@ module _ (bytes s into buffer : List ℕ) (all : Bytes s) (whole : length buffer
       subst (λ (v : List ℕ). Writes bytes s into buffer v) (written_bytes buffer x whole (omega arith))
       (refused p (ap (λ (v : List ℕ). penned (pen buffer 0) v) e))
 
-  refused_most : length refused16 ≤ 40
-  refused_most = omega (arith, length-append (refused_text ++ decimal_text 16) newline, length-append refused_text (decimal_text 16), decimal_most 16)
-
-  by_form : (f : Form) → form_of s ≡ f → within_limits (length bytes) ≡ true → length (joined ls) ≤ length into
+  by_form : (f : Result ⊤ FormError) → form_of s ≡ f → within_limits (length bytes) ≡ true → length (joined ls) ≤ length into
       → Writes bytes s into buffer (logged_of f (length bytes) s)
-  by_form Good g w h = plays w g h
-  by_form (BadField at) g w h = opens (form_text (BadField at)) (simp (ready w, g)) (simp (ready w, g)) (form_most (BadField at))
-  by_form TooLong g w h = opens (form_text TooLong) (simp (ready w, g)) (simp (ready w, g)) (form_most TooLong)
+  by_form (Ok tt) g w h = plays w g h
+  by_form (Err (BadField at)) g w h = opens (form_text (Err (BadField at))) (simp (ready w, g)) (simp (ready w, g)) (form_most (Err (BadField at)))
+  by_form (Err TooLong) g w h = opens (form_text (Err TooLong)) (simp (ready w, g)) (simp (ready w, g)) (form_most (Err TooLong))
 
   by_length : (t : Bool) → within_limits (length bytes) ≡ t → length (joined ls) ≤ length into
       → Writes bytes s into buffer (cond t (logged_of (form_of s) (length bytes) s) refused16)

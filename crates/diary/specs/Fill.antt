@@ -1,6 +1,7 @@
 -- The lines of the held records, as many at a time as a lent buffer has room for. Assumes nothing.
 use Rattle.std.specs.Prelude.{◌≡◌, cond, List, [], ◌++◌, ℕ, zero, suc, ◌+◌, ◌-◌, ◌≤◌, ◌<◌, ltb, length, take, drop}
-use Rattle.scenario.specs.Pen.{Pen, pen, penned, room}
+use Rattle.scenario.specs.declared.pen.Pen.{Pen}
+use Rattle.scenario.specs.Pen.{pen, penned, room}
 use Rattle.diary.specs.Lines.{record_line, size_of}
 
 -- a record has at most 28 bytes, and each takes three

@@ -1,8 +1,6 @@
 -- The log's length as its user gives it: a decimal number. Assumes nothing.
-use Rattle.std.specs.Prelude.{Bool, true, false, cond, List, [], ◌∷◌, ℕ, ◌+◌, ◌-◌, ◌*◌, eqb, ltb, length}
+use Rattle.std.specs.Prelude.{Bool, true, false, cond, List, [], ◌∷◌, ℕ, ◌+◌, ◌-◌, ◌*◌, eqb, ltb, length, Option, Some, None}
 use Rattle.laws.specs.AtMost.{at_most}
-use Rattle.diary.specs.declared.length.Length.{Length}
-use Rattle.diary.specs.declared.length.Length.TheVariants.{Of, Unreadable}
 
 -- more than any log may have
 abbrev pub past : ℕ
@@ -22,5 +20,5 @@ number_from n [] = n
 number_from n (c ∷ cs) = number_from (n * 10 + (c - 48)) cs
 
 -- at least one digit and nothing else; a number past the limits is kept to the first such
-unfoldable pub length_of : List ℕ → Length
-length_of s = cond (eqb (length s) 0) Unreadable (cond (all_digits s) (Of (at_most (number_from 0 s) past)) Unreadable)
+unfoldable pub length_of : List ℕ → Option ℕ
+length_of s = cond (eqb (length s) 0) None (cond (all_digits s) (Some (at_most (number_from 0 s) past)) None)

@@ -1,100 +1,78 @@
 // The held records as lines, as many at a time as a lent buffer has room for.
-ghost use Rattle.std.specs.Prelude.{◌≡◌, ◌+◌, ◌*◌, drop};
-ghost use Rattle.scenario.specs.Lines.{hexes_text};
-ghost use Rattle.scenario.specs.Pen.{pen, penned};
-ghost use Rattle.diary.specs.Lines.{digits_text, record_line, size_of};
+ghost use Rattle.std.specs.Prelude.{◌≡◌};
+ghost use Rattle.scenario.specs.Pen.{penned};
+ghost use Rattle.diary.specs.Lines.{record_line, size_of};
 ghost use Rattle.diary.specs.Fill.{filling, filled};
+ghost use Rattle.diary.specs.Series.{PrintsAll, is_over, fills_to_come, over_prints_nothing};
 
-use scenario::pen;
-use scenario::pen::ROOM;
+use scenario::pen::{Pen, ROOM};
+use scenario::series::Fills;
 
 // A record has at most 28 bytes, and each takes three.
 pub const LINE: usize = 84;
 
-// The place of the next record, and how many bytes of the buffer a fill took.
+// How many bytes the first of some records has: tag, two bytes of length and as many as they say, but never more than there are.
+fn size_of(records: &[u8]) -> usize
+    ensures { result ≡ size_of records.now }
+{
+    match records {
+        [_, high, low, ..] => laws::at_most(
+            3 + usize::from(u16::from_be_bytes([*high, *low])),
+            records.len(),
+        ),
+        _ => records.len(),
+    }
+}
+
+// A record's bytes, a blank between, and a line feed.
+fn line(out: &mut Pen, rec: &[u8])
+    ensures { out.new ≡ penned out.old (record_line rec.now) }
+{
+    if let [first, others @ ..] = rec {
+        out.byte(*first);
+        for b in others {
+            out.hex(*b);
+        }
+    }
+    out.word(b"\n");
+}
+
+// How far the held records are printed: the next one's place.
 #[derive(Clone, Copy)]
-pub struct Filled {
+pub struct Records {
     pub next: usize,
-    pub used: usize,
 }
 
-// Tag, two bytes of length and as many as they say.
-fn sized(high: u8, low: u8) -> usize
-    ensures { result ≡ 3 + 256 * high + low }
-{
-    3 + 256 * (high as usize) + (low as usize)
-}
-
-// How many bytes the record at a place has, but never more than are left.
-fn size_at(held: &[u8], at: usize) -> usize
-    ensures { result ≡ size_of (drop at held.now) }
-{
-    let n = held.len();
-    if at < n {
-        let left = n - at;
-        if left < 3 {
-            left
-        } else {
-            laws::at_most(sized(held[at + 1], held[at + 2]), left)
+impl Records {
+    // One fill of a buffer, from its start: record after record while a whole line still fits.
+    #[tactic(auto, using(crate::proofs::Filling::record_filled))]
+    pub fn fill(&mut self, held: &[u8], out: &mut Pen)
+        ensures { filling self.new.next out.new ≡ filled held.now self.old.next out.old.page }
+    {
+        out.rewind();
+        // Not a range: each record says where the next one begins.
+        while self.next < held.len() && out.at <= ROOM - LINE {
+            let to = self.next + size_of(&held[self.next..]);
+            line(out, &held[self.next..to]);
+            self.next = to;
         }
-    } else {
-        0
     }
 }
 
-// A byte in two digits.
-fn digits(out: &mut [u8; ROOM], at: usize, b: u8) -> usize
-    ensures { pen out.new result ≡ penned (pen out.old at) (digits_text b) }
-{
-    let to = pen::put(out, at, pen::hex_digit(b / 16));
-    pen::put(out, to, pen::hex_digit(b))
-}
+impl Fills for Records {
+    ghost Prints = { PrintsAll };
 
-// The bytes behind the first, each with a blank before it.
-fn others(out: &mut [u8; ROOM], at: usize, rec: &[u8]) -> usize
-    ensures { pen out.new result ≡ penned (pen out.old at) (hexes_text (drop 1 rec.now)) }
-{
-    let mut to = at;
-    let mut i: usize = 1;
-    while i < rec.len() {
-        to = pen::hex(out, to, rec[i]);
-        i += 1;
-    }
-    to
-}
+    ghost is_over = { is_over };
 
-// A record's bytes, and a line feed.
-fn line(out: &mut [u8; ROOM], at: usize, rec: &[u8]) -> usize
-    ensures { pen out.new result ≡ penned (pen out.old at) (record_line rec.now) }
-{
-    if 0 < rec.len() {
-        let first = digits(out, at, rec[0]);
-        let end = others(out, first, rec);
-        pen::word(out, end, b"\n")
-    } else {
-        pen::word(out, at, b"\n")
-    }
-}
+    ghost left = { fills_to_come };
 
-// One fill of a buffer: record after record from a place on, while a whole line still fits.
-pub fn fill(held: &[u8], at: usize, out: &mut [u8; ROOM]) -> Filled
-    ensures { filling result.next (pen out.new result.used) ≡ filled held.now at out.old }
-{
-    let mut next = at;
-    let mut used: usize = 0;
-    while next < held.len() {
-        if ROOM - LINE < used {
-            return Filled {
-                next: next,
-                used: used,
-            };
-        }
-        let to = next + size_at(held, next);
-        used = line(out, used, &held[next..to]);
-        next = to;
+    fn is_over(&self, held: &[u8]) -> bool {
+        held.len() <= self.next
     }
-    Filled {
-        next: next,
-        used: used,
+
+    fn next(&mut self, held: &[u8], out: &mut Pen) {
+        self.fill(held, out);
     }
+
+    ghost ends = { over_prints_nothing };
 }

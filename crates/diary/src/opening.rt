@@ -1,19 +1,19 @@
 // What stands alone where something is refused: the log's length, or the scenario's form.
 ghost use Rattle.std.specs.Prelude.{◌≡◌};
-ghost use Rattle.scenario.specs.Pen.{pen, penned};
+ghost use Rattle.scenario.specs.Pen.{penned};
 ghost use Rattle.diary.specs.Output.{opening_text};
 
-use buslog::log::SetUp;
-use scenario::pen::ROOM;
-use scenario::{lines, pen};
-use walk::form::Form;
+use buslog::log::{BadLength, Log};
+use scenario::lines;
+use scenario::pen::Pen;
+use walk::form::FormError;
 
 // The length is looked at first.
-pub fn opening(out: &mut [u8; ROOM], s: SetUp, f: Form) -> usize
-    ensures { pen out.new result ≡ penned (pen out.old 0) (opening_text s f) }
+pub fn opening(out: &mut Pen, s: Result<Log, BadLength>, f: Result<(), FormError>)
+    ensures { out.new ≡ penned out.old (opening_text s f) }
 {
     match s {
-        SetUp::Ready(_) => lines::form_line(out, 0, f),
-        SetUp::BadLength => pen::word(out, 0, b"refused 16\n"),
+        Ok(_) => lines::form_line(out, f),
+        Err(_) => out.word(b"refused 16\n"),
     }
 }

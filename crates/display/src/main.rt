@@ -4,6 +4,7 @@
 use desk::{arguments, failure};
 use std::process::ExitCode;
 
+// Beside `values`: each program is a crate, which the gate runs on its own input.
 fn main(rt: HostRuntime) -> ExitCode {
     if arguments::count(&rt) != 1 {
         screendesk::usage(&rt.stderr());

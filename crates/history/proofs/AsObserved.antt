@@ -18,7 +18,7 @@ use Rattle.station.specs.declared.station.Station.{Station}
 use Rattle.station.specs.declared.station.Turn.{Turn}
 use Rattle.station.proofs.Frame.{ready_lasting, hears_lasting}
 use Rattle.bus.specs.declared.bus.Bus.{Bus}
-use Rattle.bus.specs.declared.bus.Answer.{Answer}
+use Rattle.bus.specs.Bus.{Answer}
 use Rattle.bus.specs.Bus.{powered_on, attached_to, turn_at, with_bits}
 use Rattle.bus.specs.Attach.{newcomer}
 use Rattle.bus.specs.Slot.{said_by, spoken, turned, slot_heard, slot_run}

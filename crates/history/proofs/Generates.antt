@@ -9,7 +9,7 @@ use lib.Dec.{eqb, ltb}
 use Rattle.station.specs.declared.phase.Sound.{Sound}
 use Rattle.station.specs.declared.phase.Sound.TheVariants.{Quiet, Symbol}
 use Rattle.bus.specs.declared.bus.Bus.{Bus}
-use Rattle.bus.specs.declared.bus.Answer.{Answer}
+use Rattle.bus.specs.Bus.{Answer}
 use Rattle.bus.specs.Bus.{powered_on}
 use Rattle.bus.specs.Slot.{generator_says, generator_next, spoken, slot_heard, slot_run}
 use Rattle.promises.specs.Calls.{Call, attach, queue, reply, slot, heard, after_call, after_calls}

@@ -27,9 +27,9 @@ use Rattle.station.proofs.Book.{written_answers, written_others, none_missing, m
 use Rattle.station.proofs.Frame.{ready_lasting, ready_outbox, hears_lasting, outbox_after_lem}
 use Rattle.station.proofs.Waiting.{none_waiting}
 use Rattle.bus.specs.declared.bus.Bus.{Bus}
-use Rattle.bus.specs.declared.bus.Answer.{Answer}
-use Rattle.bus.specs.declared.refusal.Verdict.{Verdict}
-use Rattle.bus.specs.declared.refusal.Verdict.TheVariants.{Done, Refused}
+use Rattle.bus.specs.Bus.{Answer}
+use Rattle.std.specs.Prelude.{Result, Ok, Err, ⊤}
+use Rattle.bus.specs.declared.refusal.Refusal.{Refusal}
 use Rattle.bus.specs.Attach.{newcomer}
 use Rattle.bus.specs.Bus.{powered_on, attached_to, turn_at, with_bits}
 use Rattle.bus.specs.Conditions.{MasterAt, SlaveAt}
@@ -216,7 +216,7 @@ module _ (b : Bus) (r : Reachable b) (i : ℕ) (l : i < attached_to b) where
       more : List Telegram
       more = holds b ++ (telegram_of qq zz pb sb bytes ∷ [])
 
-      done_at : verdict_on b c ≡ Done → (q : Bool) → is_source qq its ≡ q → holds (after_call b c) ≡ cond q more (holds b)
+      done_at : verdict_on b c ≡ Ok tt → (q : Bool) → is_source qq its ≡ q → holds (after_call b c) ≡ cond q more (holds b)
       done_at e q f =
           let w = queued_waits r qq zz pb sb bytes e in
           let d = queue_done b qq zz pb sb bytes e in
@@ -237,9 +237,9 @@ module _ (b : Bus) (r : Reachable b) (i : ℕ) (l : i < attached_to b) where
               let p : d.place ≡ w.0 = one_address (reachable_fit r) d.place w.0 d.attached w.1 ((first_holds d.source).1 ∙ sym w.2.1) in
               ap (λ (t : Turn). waiting t.station.outbox) (d.changed.others i (λ e. n (e ∙ p)))
 
-      by : (v : Verdict) → verdict_on b c ≡ v → holds (after_call b c) ≡ cond (cond (is_done v) (is_source qq its) false) more (holds b)
-      by Done e = done_at e (is_source qq its) refl
-      by (Refused x) e = ap holds (refused_changes_nothing b c e)
+      by : (v : Result ⊤ Refusal) → verdict_on b c ≡ v → holds (after_call b c) ≡ cond (cond (is_done v) (is_source qq its) false) more (holds b)
+      by (Ok tt) e = done_at e (is_source qq its) refl
+      by (Err x) e = ap holds (refused_changes_nothing b c e)
 
   -- reply
   slave_is : {a : ℕ} → is_slave a its ≡ true → SlaveAt a (turn_at b i)
@@ -298,9 +298,9 @@ module _ (b : Bus) (r : Reachable b) (i : ℕ) (l : i < attached_to b) where
           seat true f (no n) = absurd (n (one_slave a d.place (slave_is f) d.attached (first_holds d.station)))
           seat false f (no n) = ap (λ (t : Turn). answer_for t.station.replies) (d.changed.others i n)
 
-      by : (v : Verdict) → verdict_on b c ≡ v → gives (after_call b c) ≡ cond (cond (is_done v) (is_slave a its) false) more (gives b)
-      by Done v = done_at (reply_done b a pb sb bytes v) (is_slave a its) refl
-      by (Refused x) v = ap gives (refused_changes_nothing b c v)
+      by : (v : Result ⊤ Refusal) → verdict_on b c ≡ v → gives (after_call b c) ≡ cond (cond (is_done v) (is_slave a its) false) more (gives b)
+      by (Ok tt) v = done_at (reply_done b a pb sb bytes v) (is_slave a its) refl
+      by (Err x) v = ap gives (refused_changes_nothing b c v)
 
   -- after any call
   module _ {ws : List Who} (w : Seated b ws) where

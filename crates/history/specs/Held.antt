@@ -7,8 +7,8 @@ use Rattle.wire.specs.Load.{empty_load, load_of}
 use Rattle.wire.specs.declared.part.Load.{Load}
 use Rattle.wire.specs.declared.part.Telegram.{Telegram}
 use Rattle.bus.specs.declared.bus.Bus.{Bus}
-use Rattle.bus.specs.declared.refusal.Verdict.{Verdict}
-use Rattle.bus.specs.declared.refusal.Verdict.TheVariants.{Done, Refused}
+use Rattle.std.specs.Prelude.{Result, Ok, Err, ⊤}
+use Rattle.bus.specs.declared.refusal.Refusal.{Refusal}
 use Rattle.bus.specs.Bus.{turn_at}
 use Rattle.bus.specs.Slot.{slot_heard, slot_run}
 use Rattle.promises.specs.Accepted.{telegram_of}
@@ -18,9 +18,9 @@ use Rattle.history.specs.Lines.{left_by}
 use Rattle.history.specs.Moments.{Answers}
 use Rattle.history.specs.Observer.{report_of}
 
-abbrev pub is_done : Verdict → Bool
-is_done Done = true
-is_done (Refused r) = false
+abbrev pub is_done : Result ⊤ Refusal → Bool
+is_done (Ok tt) = true
+is_done (Err r) = false
 
 -- ---- the stations
 

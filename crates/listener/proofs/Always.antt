@@ -11,11 +11,11 @@ use Rattle.bus.specs.declared.bus.Bus.{Bus}
 use Rattle.promises.specs.Calls.{ByteUses, Reachable}
 use Rattle.promises.proofs.Shared.Uses.{on_reachable, reachable_use}
 use Rattle.buslog.specs.Latest.{joined, longest_run}
-use Rattle.buslog.specs.Log.{within_limits, fresh_for, set_up_for, is_of, emptied}
+use Rattle.buslog.specs.Log.{within_limits, fresh_for, bad_length, set_up_for, is_of, emptied}
 use Rattle.buslog.specs.Note.{note_in}
 use Rattle.buslog.specs.ReadBack.{read_entries}
 use Rattle.buslog.specs.Ring.{Ring, ring, bytes_from, held_bytes}
-use Rattle.buslog.specs.declared.log.SetUp.TheVariants.{Ready, BadLength}
+use Rattle.std.specs.Prelude.{Ok, Err}
 use Rattle.buslog.proofs.DiaryReadsBack.{events_numbered}
 use Rattle.buslog.proofs.HoldsTheLatest.{HoldsLatest, slot_noted}
 use Rattle.buslog.proofs.Limits.{sound_fresh, sound_emptied, own_buffer}
@@ -45,7 +45,7 @@ set_up_held : (bytes : List ℕ) (d : Ring) (all : List Line) → Held d all
 unfolding set_up_for bytes_from joined longest_run
 set_up_held bytes d all h = go (within_limits (length bytes)) refl
   where
-    go : (t : Bool) → within_limits (length bytes) ≡ t → Held (readied (cond t (Ready (fresh_for (length bytes))) BadLength) bytes d) (cond t [] all)
+    go : (t : Bool) → within_limits (length bytes) ≡ t → Held (readied (cond t (Ok (fresh_for (length bytes))) (Err bad_length)) bytes d) (cond t [] all)
     go true w = since (length bytes) (record { sound = sound_fresh bytes w; room = refl; bytes = refl })
     go false w = h
 

@@ -21,7 +21,7 @@ use Rattle.diary.proofs.WirelogPrints.{wirelog_prints_whole}
 use Rattle.listener.proofs.Roomy.{reachable_roomy}
 
 -- every bus that a scenario tells something of is one that calls bring about
-told_roomy : {ns : List Now} → Every Reached ns → AllRoomy (told_buses ns)
+pub told_roomy : {ns : List Now} → Every Reached ns → AllRoomy (told_buses ns)
 unfolding told_buses
 told_roomy every.none = none
 told_roomy (every.next {a = n} {l = ns} r rs) = go n.moment n.bus r (told_roomy rs)

@@ -1,5 +1,5 @@
 -- A bus and a log beside it, and whatever users do with both from power-on, in any order (02, E1). Assumes nothing.
-use Rattle.std.specs.Prelude.{cond, List, [], ◌∷◌, ◌++◌, ℕ, length}
+use Rattle.std.specs.Prelude.{cond, List, [], ◌∷◌, ◌++◌, ℕ, length, Result, Ok, Err}
 use Rattle.bus.specs.Events.{Line, events}
 use Rattle.bus.specs.Bus.{powered_on}
 use Rattle.bus.specs.declared.bus.Bus.{Bus}
@@ -7,8 +7,8 @@ use Rattle.promises.specs.Calls.{Use, after_use}
 use Rattle.buslog.specs.Log.{fresh_for, within_limits, set_up_for, is_of, emptied}
 use Rattle.buslog.specs.Note.{note_in}
 use Rattle.buslog.specs.Ring.{Ring, ring}
-use Rattle.buslog.specs.declared.log.SetUp.{SetUp}
-use Rattle.buslog.specs.declared.log.SetUp.TheVariants.{Ready, BadLength}
+use Rattle.buslog.specs.declared.log.BadLength.{BadLength}
+use Rattle.buslog.specs.declared.log.Log.{Log}
 
 pub record Beside : Type 0 where
   pub bus : Bus
@@ -27,9 +27,9 @@ pub data Act : Type 0 where
   kth : ℕ → List ℕ → Act
 
 -- the log in the buffer where it was set up, or the one that there was
-abbrev pub readied : SetUp → List ℕ → Ring → Ring
-readied (Ready l) bytes d = ring bytes l
-readied BadLength bytes d = d
+abbrev pub readied : Result Log BadLength → List ℕ → Ring → Ring
+readied (Ok l) bytes d = ring bytes l
+readied (Err e) bytes d = d
 
 -- both after an act; the records are copied out of a buffer that is only lent for reading
 abbrev pub after_act : Beside → Act → Beside

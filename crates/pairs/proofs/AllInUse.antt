@@ -5,7 +5,7 @@ use mathlib.Core.List.{List}
 use Prim.Native.Nat.{ℕ, ◌≤◌, ◌<◌}
 use native.Mathlib.Omega.{arith}
 use lib.ListN.{length, length-take}
-use Rattle.laws.proofs.AtMost.{at_most_same}
+use Rattle.laws.proofs.AtMost.{at_most_room, at_most_same}
 use Rattle.pairs.specs.declared.Counts.{Counts}
 use Rattle.pairs.specs.declared.Pair.{Pair}
 use Rattle.pairs.specs.declared.Transfer.{Transfer}
@@ -14,6 +14,10 @@ use Rattle.pairs.specs.Recount.{Ends, among, recorded, records_of}
 use Rattle.pairs.specs.Table.{find, place_in}
 use Rattle.pairs.specs.Tallied.{Tallied}
 use Rattle.pairs.proofs.FoundRecord.{place_of, found_within, found_nowhere}
+
+pub in_use_fits : (c : Counts) → in_use c ≤ records
+unfolding in_use
+in_use_fits c = at_most_room c.used records
 
 recorded_most : (xs : List Transfer) → length (recorded xs) ≤ records
 unfolding recorded

@@ -10,20 +10,19 @@ use Rattle.station.specs.Events.{Word, owns, taken, failed, free, given, answer,
 use Rattle.bus.specs.Events.{events}
 use Rattle.bus.specs.declared.bus.Bus.{Bus}
 use Rattle.pairs.specs.declared.Counts.{Counts}
-use Rattle.pairs.specs.declared.Freed.{Freed}
-use Rattle.pairs.specs.declared.Freed.TheVariants.{Nothing, One}
+use Rattle.std.specs.Prelude.{Option, Some, None}
 use Rattle.pairs.specs.declared.Heard.{Heard}
 use Rattle.pairs.specs.declared.Transfer.{Transfer}
 use Rattle.pairs.specs.Ended.{is_free, free_lines}
 use Rattle.pairs.specs.Hear.{or_freed, ended_by, heard_as, heard_events, events_in, heard_of}
 
-abbrev pub is_freed : Freed → Bool
-is_freed Nothing = false
-is_freed (One x) = true
+abbrev pub is_freed : Option Transfer → Bool
+is_freed None = false
+is_freed (Some x) = true
 
-freed_now : (f : Freed) (x : Transfer) → is_freed (or_freed f x) ≡ true
-freed_now Nothing x = refl
-freed_now (One y) x = refl
+freed_now : (f : Option Transfer) (x : Transfer) → is_freed (or_freed f x) ≡ true
+freed_now None x = refl
+freed_now (Some y) x = refl
 
 -- one line more
 line_freed : (w : Word) (h : Heard) (e : Event) → is_freed (heard_as w h e).freed ≡ cond (is_free w) true (is_freed h.freed)

@@ -5,14 +5,12 @@ pub mod EachOnce
 pub mod FoundRecord
 pub mod FreedWhen
 pub mod HeardLines
-pub mod Noting
 pub mod OneMore
 pub mod PairsMore
+pub mod Placed
 pub mod RecordsKept
 pub mod Recounted
-pub mod Row
 pub mod SameEnds
-pub mod Search
 pub mod Searching
 pub mod SlaveAddresses
 pub mod Stops

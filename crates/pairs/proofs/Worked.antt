@@ -4,24 +4,23 @@ use mathlib.Core.Bool.{Bool, true, false}
 use mathlib.Core.List.{List, [], ◌∷◌, ◌++◌}
 use Prim.Native.Nat.{ℕ, zero, suc, ◌-◌}
 use lib.ListN.{length, replicate}
-use Rattle.pairs.specs.declared.Freed.TheVariants.{One}
+use Rattle.std.specs.Prelude.{Some, Ok}
 use Rattle.pairs.specs.declared.Pair.{Pair}
-use Rattle.pairs.specs.declared.Said.TheVariants.{Done}
 use Rattle.pairs.specs.declared.Tally.{Tally}
 use Rattle.pairs.specs.Counts.{tally, counts, records, up, raise, in_use}
 use Rattle.pairs.specs.Hear.{heard}
-use Rattle.pairs.specs.Table.{pair, blank, is_of, find, place_in, raised, opened, noted, settled, Counting, counting, kept, counted_one, count_in}
+use Rattle.pairs.specs.Table.{pair, blank, is_of, find, place_in, raised, opened, noted, settled, Counting, counting, counts_after, counted_one, count_in}
 use Rattle.pairs.specs.UnderWay.{nothing_known}
 
 -- the table and its counts where these records are in use
 abbrev held : List Pair → Tally → Counting
 held ps others =
-    counting (ps ++ replicate (records - length ps) blank) (kept (counts (length ps) others nothing_known) Done)
+    counting (ps ++ replicate (records - length ps) blank) (Ok (counts (length ps) others nothing_known))
 
 -- with a transfer from qq to 08
 abbrev after : Counting → ℕ → Bool → Counting
 after k qq taken =
-    count_in k.table (heard k.kept.counts nothing_known (One (record { qq = qq; zz = 8; taken = taken })))
+    count_in k.table (heard (counts_after k.kept) nothing_known (Some (record { qq = qq; zz = 8; taken = taken })))
 
 -- n pairs
 abbrev many : ℕ → List Pair

@@ -1,26 +1,24 @@
 -- What a slot told, line by line: the transfer under way, and the one that came to its end (02, E9). Assumes nothing.
-use Rattle.std.specs.Prelude.{List, [], ◌∷◌, map, ℕ, get_or}
+use Rattle.std.specs.Prelude.{List, [], ◌∷◌, map, ℕ, get_or, Option, Some, None}
 use Rattle.station.specs.Events.{Word, owns, taken, failed, free, given, answer, Event}
 use Rattle.bus.specs.Events.{Line, events}
 use Rattle.bus.specs.declared.bus.Bus.{Bus}
 use Rattle.pairs.specs.declared.Counts.{Counts}
-use Rattle.pairs.specs.declared.Freed.{Freed}
-use Rattle.pairs.specs.declared.Freed.TheVariants.{Nothing, One}
 use Rattle.pairs.specs.declared.Heard.{Heard}
 use Rattle.pairs.specs.declared.Transfer.{Transfer}
 use Rattle.pairs.specs.declared.UnderWay.{UnderWay}
 use Rattle.pairs.specs.UnderWay.{nothing_known, begun, taken_by, answered_in, is_taken}
 
-abbrev pub heard : Counts → UnderWay → Freed → Heard
+abbrev pub heard : Counts → UnderWay → Option Transfer → Heard
 heard c u f = record { before = c; current = u; freed = f }
 
 abbrev pub transfer : ℕ → ℕ → UnderWay → ℕ → Transfer
 transfer qq zz u a = record { qq = qq; zz = zz; taken = is_taken u a zz }
 
 -- a slot has one free line at most (`one-free-line`): a second would not count
-abbrev pub or_freed : Freed → Transfer → Freed
-or_freed Nothing x = One x
-or_freed (One y) x = One y
+abbrev pub or_freed : Option Transfer → Transfer → Option Transfer
+or_freed None x = Some x
+or_freed (Some y) x = Some y
 
 -- a free line ends the transfer of the telegram that it lets go
 unfoldable pub ended_by : Heard → ℕ → ℕ → ℕ → Heard
@@ -46,4 +44,4 @@ events_in ls = map (λ (l : Line). l.event) ls
 
 -- the slot that the bus has just run
 unfoldable pub heard_of : Counts → Bus → Heard
-heard_of c b = heard_events (heard c c.current Nothing) (events_in (events b))
+heard_of c b = heard_events (heard c c.current None) (events_in (events b))

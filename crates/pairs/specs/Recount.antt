@@ -1,8 +1,8 @@
 -- A recount of transfers by pair: nothing here knows of a table (02, E9). Lists of transfers are latest first. Assumes nothing.
-use Rattle.std.specs.Prelude.{Bool, true, false, cond, List, [], ◌∷◌, ◌++◌, map, ℕ, ◌+◌, eqb, take}
+use Rattle.std.specs.Prelude.{Bool, true, false, cond, List, [], ◌∷◌, ◌++◌, map, ℕ, ◌+◌, eqb, take, Result, Ok, Err}
 use Rattle.laws.specs.AtMost.{at_most}
-use Rattle.pairs.specs.declared.Asked.{Asked}
-use Rattle.pairs.specs.declared.Asked.TheVariants as asked
+use Rattle.pairs.specs.declared.AskError.{AskError}
+use Rattle.pairs.specs.declared.AskError.TheVariants.{NoRecord}
 use Rattle.pairs.specs.declared.Pair.{Pair}
 use Rattle.pairs.specs.declared.Tally.{Tally}
 use Rattle.pairs.specs.declared.Transfer.{Transfer}
@@ -66,5 +66,5 @@ unfoldable pub others_of : List Transfer → Tally
 others_of xs = tally_of (has_none (recorded xs)) xs
 
 -- what is answered of a pair
-unfoldable pub answer_of : List Transfer → ℕ → ℕ → Asked
-answer_of xs qq zz = cond (among (ends qq zz) (recorded xs)) (asked.Counts (tally_of (same (ends qq zz)) xs)) asked.NoRecord
+unfoldable pub answer_of : List Transfer → ℕ → ℕ → Result Tally AskError
+answer_of xs qq zz = cond (among (ends qq zz) (recorded xs)) (Ok (tally_of (same (ends qq zz)) xs)) (Err NoRecord)

@@ -1,18 +1,14 @@
 -- A transfer counted at its pair's record, or at a new one, or among the others; and a pair's counts (02, E9). Over the list of the
 -- table's records. Assumes nothing.
-use Rattle.std.specs.Prelude.{Bool, false, cond, List, [], ◌∷◌, ℕ, zero, suc, ◌+◌, eqb, ltb, length, take, get_or, set}
+use Rattle.std.specs.Prelude.{Bool, false, cond, List, [], ◌∷◌, ℕ, zero, suc, ◌+◌, eqb, ltb, length, take, get_or, set, Option, Some, None, Result, Ok, Err}
 use Rattle.bus.specs.declared.bus.Bus.{Bus}
-use Rattle.pairs.specs.declared.Asked.{Asked}
-use Rattle.pairs.specs.declared.Asked.TheVariants as asked
+use Rattle.pairs.specs.declared.AskError.{AskError}
+use Rattle.pairs.specs.declared.AskError.TheVariants as ask_error
 use Rattle.pairs.specs.declared.Book.{Book}
 use Rattle.pairs.specs.declared.Counts.{Counts}
-use Rattle.pairs.specs.declared.Freed.{Freed}
-use Rattle.pairs.specs.declared.Freed.TheVariants.{Nothing, One}
 use Rattle.pairs.specs.declared.Heard.{Heard}
-use Rattle.pairs.specs.declared.Kept.{Kept}
+use Rattle.pairs.specs.declared.OtherLength.{OtherLength}
 use Rattle.pairs.specs.declared.Pair.{Pair}
-use Rattle.pairs.specs.declared.Said.{Said}
-use Rattle.pairs.specs.declared.Said.TheVariants.{Done, OtherLength}
 use Rattle.pairs.specs.declared.Tally.{Tally}
 use Rattle.pairs.specs.declared.Transfer.{Transfer}
 use Rattle.pairs.specs.declared.UnderWay.{UnderWay}
@@ -58,49 +54,54 @@ settled c u at x =
     (counts c.used c.others u)
     (cond (ltb at records) (counts (at + 1) c.others u) (counts c.used (raise c.others x.taken) u))
 
--- the table and the counts after a call, and what the call says
+-- the table after a call, and what the call gives: the counts, or a refusal that gives them back
 pub record Counting : Type 0 where
   pub table : List Pair
-  pub kept : Kept
+  pub kept : Result Counts OtherLength
 
-abbrev pub counting : List Pair → Kept → Counting
+abbrev pub counting : List Pair → Result Counts OtherLength → Counting
 counting t k = record { table = t; kept = k }
 
-abbrev pub kept : Counts → Said → Kept
-kept c s = record { counts = c; said = s }
+abbrev pub other_length : Counts → OtherLength
+other_length c = record { counts = c }
+
+-- the counts after it, either way
+abbrev pub counts_after : Result Counts OtherLength → Counts
+counts_after (Ok c) = c
+counts_after (Err e) = e.counts
 
 -- a transfer has ended
 unfoldable pub counted_one : List Pair → Heard → Transfer → Counting
 counted_one t h x =
     let at = place_in t (in_use h.before) x.qq x.zz in
-    counting (set t at (noted (get_or t at blank) at h.before x)) (kept (settled h.before h.current at x) Done)
+    counting (set t at (noted (get_or t at blank) at h.before x)) (Ok (settled h.before h.current at x))
 
 -- or none has
-abbrev pub counted_as : Freed → List Pair → Heard → Counting
-counted_as Nothing t h = counting t (kept (counts h.before.used h.before.others h.current) Done)
-counted_as (One x) t h = counted_one t h x
+abbrev pub counted_as : Option Transfer → List Pair → Heard → Counting
+counted_as None t h = counting t (Ok (counts h.before.used h.before.others h.current))
+counted_as (Some x) t h = counted_one t h x
 
 -- a table of another length than 64: nothing is changed
 unfoldable pub count_in : List Pair → Heard → Counting
-count_in t h = cond (eqb (length t) records) (counted_as h.freed t h) (counting t (kept h.before OtherLength))
+count_in t h = cond (eqb (length t) records) (counted_as h.freed t h) (counting t (Err (other_length h.before)))
 
 -- what a pair's record says
-unfoldable pub counts_of : Pair → Asked
-counts_of p = asked.Counts p.tally
+unfoldable pub counts_of : Pair → Result Tally AskError
+counts_of p = Ok p.tally
 
 -- the table is read from its beginning up to the pair's record; 20 where the pair has none
-unfoldable pub ask_in : List Pair → Counts → ℕ → ℕ → Asked
+unfoldable pub ask_in : List Pair → Counts → ℕ → ℕ → Result Tally AskError
 ask_in t c qq zz =
     let at = place_in t (in_use c) qq zz in
-    cond (ltb at (in_use c)) (counts_of (get_or t at blank)) asked.NoRecord
+    cond (ltb at (in_use c)) (counts_of (get_or t at blank)) (Err ask_error.NoRecord)
 
-unfoldable pub ask_of : List Pair → Counts → ℕ → ℕ → Asked
-ask_of t c qq zz = cond (eqb (length t) records) (ask_in t c qq zz) asked.OtherLength
+unfoldable pub ask_of : List Pair → Counts → ℕ → ℕ → Result Tally AskError
+ask_of t c qq zz = cond (eqb (length t) records) (ask_in t c qq zz) (Err ask_error.OtherLength)
 
 -- the slot that the bus has just run, heard and counted
 abbrev pub listened : List Pair → Counts → Bus → Counting
 listened t c b = count_in t (heard_of c b)
 
--- the same for a table that is kept by value
+-- the same for a table of its own
 abbrev pub book_of : Counting → Book
-book_of k = record { counts = k.kept.counts; table = k.table }
+book_of k = record { counts = counts_after k.kept; table = k.table }

@@ -1,18 +1,21 @@
 -- Two outcomes that a contract allows are the same: the result, and every byte of the lent buffer at exit (01, "How tight the promises
--- are"). Each hypothesis is the equation of a public function's contract, with `before` for what the buffer held at entry and `page`
--- for what it holds at exit; a buffer is lent to be read only where the contract names no exit. Assumes nothing.
+-- are"). Each hypothesis is the equation of a public function's contract, with `before` for the pen, or for what its buffer held, at
+-- entry, and `q` and `r` for the pen at exit: its whole buffer and its place. A buffer is lent to be read only where the contract names
+-- no exit. Assumes nothing.
 use mathlib.Core.Path.{◌≡◌, ap}
 use mathlib.Core.List.{List}
 use Prim.Native.Nat.{ℕ}
 use Rattle.bus.specs.Queue.{queues}
-use Rattle.bus.specs.declared.bus.Answer.{Answer}
+use Rattle.bus.specs.Bus.{Answer}
 use Rattle.bus.specs.declared.bus.Bus.{Bus}
-use Rattle.bus.specs.declared.refusal.Verdict.{Verdict}
-use Rattle.walk.specs.declared.form.Form.{Form}
+use Rattle.std.specs.Prelude.{Result, ⊤}
+use Rattle.bus.specs.declared.refusal.Refusal.{Refusal}
+use Rattle.std.specs.Prelude.{Result, ⊤}
+use Rattle.walk.specs.declared.form.FormError.{FormError}
 use Rattle.scenario.specs.Fill.{Fill, filling, started, filled}
 use Rattle.scenario.specs.Lines.{slot_text, verdict_text, form_text, end_text}
-use Rattle.scenario.specs.Pen.{Pen, pen, penned}
-use Rattle.scenario.specs.declared.fill.Filled.{Filled}
+use Rattle.scenario.specs.declared.pen.Pen.{Pen}
+use Rattle.scenario.specs.Pen.{pen, penned}
 use Rattle.scenario.specs.declared.fill.Printing.{Printing}
 use Rattle.promises.proofs.Tight.{one_result}
 
@@ -20,33 +23,28 @@ use Rattle.promises.proofs.Tight.{one_result}
 pub one_pen : {page other : List ℕ} {r s : ℕ} {d : Pen} → pen page r ≡ d → pen other s ≡ d → (r ≡ s) × (page ≡ other)
 one_pen e f = let g = one_result e f in (ap (λ (p : Pen). p.at) g, ap (λ (p : Pen). p.page) g)
 
-module _ (before : List ℕ) {page other : List ℕ} where
-  module _ (at : ℕ) {r s : ℕ} where
-    -- scenario::lines::slot_lines
-    pub slot_lines_one_outcome : (b : Bus) → pen page r ≡ penned (pen before at) (slot_text b) → pen other s ≡ penned (pen before at) (slot_text b)
-        → (r ≡ s) × (page ≡ other)
-    slot_lines_one_outcome b e f = one_pen e f
+module _ (before : Pen) {q r : Pen} where
+  -- scenario::fill::slot_lines
+  pub slot_lines_one_outcome : (b : Bus) → q ≡ penned before (slot_text b) → r ≡ penned before (slot_text b) → q ≡ r
+  slot_lines_one_outcome b e f = one_result e f
 
-    -- scenario::lines::verdict_line
-    pub verdict_line_one_outcome : (v : Verdict) → pen page r ≡ penned (pen before at) (verdict_text v) → pen other s ≡ penned (pen before at) (verdict_text v)
-        → (r ≡ s) × (page ≡ other)
-    verdict_line_one_outcome v e f = one_pen e f
+  -- scenario::lines::verdict_line
+  pub verdict_line_one_outcome : (v : Result ⊤ Refusal) → q ≡ penned before (verdict_text v) → r ≡ penned before (verdict_text v) → q ≡ r
+  verdict_line_one_outcome v e f = one_result e f
 
-    -- scenario::lines::form_line
-    pub form_line_one_outcome : (g : Form) → pen page r ≡ penned (pen before at) (form_text g) → pen other s ≡ penned (pen before at) (form_text g)
-        → (r ≡ s) × (page ≡ other)
-    form_line_one_outcome g e f = one_pen e f
+  -- scenario::lines::form_line
+  pub form_line_one_outcome : (g : Result ⊤ FormError) → q ≡ penned before (form_text g) → r ≡ penned before (form_text g) → q ≡ r
+  form_line_one_outcome g e f = one_result e f
 
-    -- scenario::lines::end_line
-    pub end_line_one_outcome : (slot : ℕ) → pen page r ≡ penned (pen before at) (end_text slot) → pen other s ≡ penned (pen before at) (end_text slot)
-        → (r ≡ s) × (page ≡ other)
-    end_line_one_outcome slot e f = one_pen e f
+  -- scenario::lines::end_line
+  pub end_line_one_outcome : (slot : ℕ) → q ≡ penned before (end_text slot) → r ≡ penned before (end_text slot) → q ≡ r
+  end_line_one_outcome slot e f = one_result e f
 
-  -- scenario::fill::Printing::fill
-  pub fill_one_outcome : (g : Printing) (input : List ℕ) {r s : Filled} → filling r.printing (pen page r.used) ≡ filled g input before
-      → filling s.printing (pen other s.used) ≡ filled g input before → (r ≡ s) × (page ≡ other)
-  fill_one_outcome g input e f =
-      let h = one_result e f in (ap (λ (x : Fill). record { printing = x.printing; used = x.pen.at }) h, ap (λ (x : Fill). x.pen.page) h)
+-- scenario::fill::Printing::fill
+pub fill_one_outcome : (before : List ℕ) (g : Printing) (input : List ℕ) {h k : Printing} {q r : Pen} → filling h q ≡ filled g input before
+    → filling k r ≡ filled g input before → (h ≡ k) × (q ≡ r)
+fill_one_outcome before g input e f =
+    let w = one_result e f in (ap (λ (x : Fill). x.printing) w, ap (λ (x : Fill). x.pen) w)
 
 -- scenario::fill::Printing::start, and every other public function whose contract is `r ≡ definition ..`
 pub start_one_outcome : (input : List ℕ) {r s : Printing} → r ≡ started input → s ≡ started input → r ≡ s

@@ -7,8 +7,8 @@ use Rattle.laws.proofs.FirstIs.{next, every_map}
 use Rattle.bus.specs.Refusal.{refusal_number}
 use Rattle.bus.specs.declared.refusal.Refusal.{Refusal}
 use Rattle.bus.specs.declared.refusal.Refusal.TheVariants.{Running, NoSuchAddress, InUse, NoRoom, NoMaster, NoTarget, NoSlave, NoCommand, TooMuchData, OutboxFull, BookFull}
-use Rattle.bus.specs.declared.refusal.Verdict.TheVariants.{Refused}
-use Rattle.walk.specs.declared.form.Form.TheVariants.{BadField, TooLong}
+use Rattle.std.specs.Prelude.{Err}
+use Rattle.walk.specs.declared.form.FormError.TheVariants.{BadField, TooLong}
 use Rattle.promises.proofs.Shared.Arrays.{every_append}
 use Rattle.scenario.specs.Lines.{verdict_text, form_text, end_text}
 use Rattle.scenario.specs.Output.{header}
@@ -51,16 +51,16 @@ refusal_small TooMuchData = omega arith
 refusal_small OutboxFull = omega arith
 refusal_small BookFull = omega arith
 
-pub refusal_reads_back : (r : Refusal) (rest : List ℕ) → read_text (verdict_text (Refused r) ++ rest) ≡ refused (refusal_number r) ∷ read_text rest
+pub refusal_reads_back : (r : Refusal) (rest : List ℕ) → read_text (verdict_text (Err r) ++ rest) ≡ refused (refusal_number r) ∷ read_text rest
 refusal_reads_back r rest =
     one_number (letters "refused") (refusal_number r) rest (above 32 (letters "refused") refl) ∙ rw (decimal_reads_back (refusal_number r) (refusal_small r))
 
 -- refused 14 with the offset, refused 15 with 65536
-pub bad_field_reads_back : (at : ℕ) (rest : List ℕ) → at < 2 ^ 32 → read_text (form_text (BadField at) ++ rest) ≡ refused_at 14 at ∷ read_text rest
+pub bad_field_reads_back : (at : ℕ) (rest : List ℕ) → at < 2 ^ 32 → read_text (form_text (Err (BadField at)) ++ rest) ≡ refused_at 14 at ∷ read_text rest
 bad_field_reads_back at rest h =
     two_numbers (letters "refused") 14 at rest (above 32 (letters "refused") refl) ∙ rw (decimal_reads_back 14 (omega arith), decimal_reads_back at h)
 
-pub too_long_reads_back : (rest : List ℕ) → read_text (form_text TooLong ++ rest) ≡ refused_at 15 65536 ∷ read_text rest
+pub too_long_reads_back : (rest : List ℕ) → read_text (form_text (Err TooLong) ++ rest) ≡ refused_at 15 65536 ∷ read_text rest
 too_long_reads_back rest =
     two_numbers (letters "refused") 15 65536 rest (above 32 (letters "refused") refl) ∙ rw (decimal_reads_back 15 (omega arith), decimal_reads_back 65536 (omega arith))
 

@@ -6,7 +6,7 @@ use Rattle.laws.proofs.FirstIs.{Every, none, next}
 use Rattle.walk.specs.Field.{Bytes}
 use Rattle.walk.specs.Form.{form_of}
 use Rattle.walk.specs.Moments.{Now, moments}
-use Rattle.walk.specs.declared.form.Form.TheVariants.{Good}
+use Rattle.std.specs.Prelude.{Ok}
 use Rattle.screen.specs.Output.{displayed}
 use Rattle.screen.specs.ReadBack.{read_text, said_of}
 use Rattle.screen.proofs.LinesReadBack.{lines_read_back}
@@ -20,5 +20,5 @@ said_walked none = refl
 said_walked (next r rs) = rw (next_is_the_walk r, said_walked rs)
 
 -- for every scenario of good form
-pub shown_is_the_walk : (s : List ℕ) → Bytes s → form_of s ≡ Good → read_text (displayed s) ≡ walked_of (moments s)
+pub shown_is_the_walk : (s : List ℕ) → Bytes s → form_of s ≡ Ok tt → read_text (displayed s) ≡ walked_of (moments s)
 shown_is_the_walk s bytes g = lines_read_back s g ∙ said_walked (moments_reached s bytes)

@@ -12,14 +12,14 @@ use Rattle.wire.specs.Load.{load_of}
 use Rattle.wire.specs.declared.part.Telegram.{Telegram}
 use Rattle.station.specs.Outbox.{queue_depth, held_in, waiting, accepted}
 use Rattle.station.specs.Replies.{answer_for}
-use Rattle.station.specs.declared.outbox.Accepted.{Accepted}
+use Rattle.station.specs.Outbox.{Accepted}
 use Rattle.station.specs.declared.outbox.Outbox.{Outbox}
 use Rattle.station.specs.declared.replies.Reply.{Reply}
 use Rattle.station.specs.declared.station.Turn.{Turn}
 use Rattle.station.proofs.Book.{written_answers}
 use Rattle.station.proofs.Waiting.{Kept, accepted_queued, accepted_full}
 use Rattle.bus.specs.declared.bus.Bus.{Bus}
-use Rattle.bus.specs.declared.refusal.Verdict.TheVariants.{Done}
+use Rattle.std.specs.Prelude.{Ok, Err}
 use Rattle.bus.specs.Bus.{unseated, attached_to, turn_at}
 use Rattle.bus.specs.Conditions.{MasterAt, SlaveAt}
 use Rattle.bus.proofs.DoneChanges.{OneTurn, queue_done, reply_done}
@@ -56,7 +56,7 @@ pub queued_waits : {b : Bus}
     -- then a queue call
     → (qq zz pb sb : ℕ) (bytes : List ℕ)
     -- that is not refused
-    → verdict_on b (queue qq zz pb sb bytes) ≡ Done
+    → verdict_on b (queue qq zz pb sb bytes) ≡ Ok tt
     -- there is an attached station
     → (i : ℕ) × (i < attached_to b)
     -- a master with the address QQ
@@ -82,7 +82,7 @@ pub replied_answers : {b : Bus}
     -- then a reply call, with a slave address, PB, SB and bytes
     → (a pb sb : ℕ) (bytes : List ℕ)
     -- that is not refused
-    → verdict_on b (reply a pb sb bytes) ≡ Done
+    → verdict_on b (reply a pb sb bytes) ≡ Ok tt
     -- there is an attached station
     → (i : ℕ) × (i < attached_to b)
     -- whose slave address it is

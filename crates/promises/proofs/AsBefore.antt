@@ -9,20 +9,18 @@ use native.Mathlib.Omega.{arith}
 use borrow.Author.Tests.{le-ltb}
 use lib.Dec.{ltb}
 use lib.ListN.{length}
-use Rattle.laws.specs.declared.Found.{Found}
-use Rattle.laws.specs.declared.Found.TheVariants.{At, Missing}
+use Rattle.std.specs.Prelude.{Option, Some, None}
 use Rattle.wire.specs.Form.{telegram_form}
 use Rattle.wire.specs.Load.{most_data, load_of}
 use Rattle.wire.specs.declared.part.Telegram.{Telegram}
 use Rattle.wire.proofs.Fitting.{load_sixteen}
 use Rattle.wire.proofs.Symbols.{telegram_at_most_39}
 use Rattle.bus.specs.declared.bus.Bus.{Bus}
-use Rattle.bus.specs.declared.bus.Answer.{Answer}
+use Rattle.bus.specs.Bus.{Answer}
 use Rattle.bus.specs.declared.find.Query.TheVariants.{Master}
 use Rattle.bus.specs.declared.refusal.Refusal.{Refusal}
 use Rattle.bus.specs.declared.refusal.Refusal.TheVariants.{Running, NoSuchAddress, InUse, NoRoom, NoMaster, NoTarget, NoSlave, NoCommand, TooMuchData, OutboxFull, BookFull}
-use Rattle.bus.specs.declared.refusal.Verdict.{Verdict}
-use Rattle.bus.specs.declared.refusal.Verdict.TheVariants.{Done, Refused}
+use Rattle.std.specs.Prelude.{Result, Ok, Err, ⊤}
 use Rattle.bus.specs.Bus.{turn_at, refused_by}
 use Rattle.bus.specs.Conditions.{verdict_number}
 use Rattle.bus.specs.Find.{first_of}
@@ -70,9 +68,9 @@ pub record OldAnswer : Type 0 where
   pub verdict : OldVerdict
 
 -- what is given now, in the words of the old list
-abbrev pub in_old_words : Verdict → OldVerdict
-in_old_words Done = done
-in_old_words (Refused r) = turned_down (stays r)
+abbrev pub in_old_words : Result ⊤ Refusal → OldVerdict
+in_old_words (Ok tt) = done
+in_old_words (Err r) = turned_down (stays r)
 
 abbrev pub old_answer : Answer → OldAnswer
 old_answer a = record { bus = a.bus; verdict = in_old_words a.verdict }
@@ -93,9 +91,9 @@ old_queues_from b i zz pb sb bytes =
     (cond (ltb most_data (length bytes)) (old_refused_by b (stays TooMuchData))
     (old_queues_telegram b i (record { qq = (turn_at b i).station.address; zz = zz; pb = pb; sb = sb; load = load_of bytes }))))
 
-abbrev pub old_queues_at : Found → Bus → ℕ → ℕ → ℕ → List ℕ → OldAnswer
-old_queues_at (At i) b zz pb sb bytes = old_queues_from b i zz pb sb bytes
-old_queues_at Missing b zz pb sb bytes = old_refused_by b (stays NoMaster)
+abbrev pub old_queues_at : Option ℕ → Bus → ℕ → ℕ → ℕ → List ℕ → OldAnswer
+old_queues_at (Some i) b zz pb sb bytes = old_queues_from b i zz pb sb bytes
+old_queues_at None b zz pb sb bytes = old_refused_by b (stays NoMaster)
 
 abbrev pub old_queues : Bus → ℕ → ℕ → ℕ → ℕ → List ℕ → OldAnswer
 old_queues b qq zz pb sb bytes = old_queues_at (first_of b (Master qq)) b zz pb sb bytes
@@ -125,7 +123,7 @@ pub old_after_calls : Bus → List Call → Bus
 old_after_calls b [] = b
 old_after_calls b (c ∷ cs) = old_after_calls (old_after_call b c) cs
 
-pub verdicts_on : Bus → List Call → List Verdict
+pub verdicts_on : Bus → List Call → List (Result ⊤ Refusal)
 verdicts_on b [] = []
 verdicts_on b (c ∷ cs) = verdict_on b c ∷ verdicts_on (after_call b c) cs
 
@@ -147,13 +145,13 @@ pub queue_as_before : (b : Bus) (qq zz pb sb : ℕ) (bytes : List ℕ) → old_q
 unfolding queues queues_from refused_by
 queue_as_before b qq zz pb sb bytes = go (first_of b (Master qq))
   where
-    go : (f : Found) → old_queues_at f b zz pb sb bytes ≡ old_answer (queues_at f b zz pb sb bytes)
-    go (At i) =
+    go : (f : Option ℕ) → old_queues_at f b zz pb sb bytes ≡ old_answer (queues_at f b zz pb sb bytes)
+    go (Some i) =
         let t : Telegram = record { qq = (turn_at b i).station.address; zz = zz; pb = pb; sb = sb; load = load_of bytes } in
         past b (no_target (turn_at b i).station zz) NoTarget _ _
         (past b (no_command pb sb) NoCommand _ _
         (past b (ltb most_data (length bytes)) TooMuchData _ _ (line_6_passed b i t (telegram_at_most_39 t (load_sixteen bytes)))))
-    go Missing = refl
+    go None = refl
 
 -- and so does every call on every bus
 pub every_call_as_before : (b : Bus) (c : Call) → (old_verdict_on b c ≡ in_old_words (verdict_on b c)) × (old_after_call b c ≡ after_call b c)
@@ -181,34 +179,34 @@ every_sequence_as_before b (c ∷ cs) =
 -- ---- the numbers
 
 -- the others keep their values
-pub numbers_stay : (v : Verdict) → old_number (in_old_words v) ≡ verdict_number v
-numbers_stay Done = refl
-numbers_stay (Refused Running) = refl
-numbers_stay (Refused NoSuchAddress) = refl
-numbers_stay (Refused InUse) = refl
-numbers_stay (Refused NoRoom) = refl
-numbers_stay (Refused NoMaster) = refl
-numbers_stay (Refused NoTarget) = refl
-numbers_stay (Refused NoSlave) = refl
-numbers_stay (Refused NoCommand) = refl
-numbers_stay (Refused TooMuchData) = refl
-numbers_stay (Refused OutboxFull) = refl
-numbers_stay (Refused BookFull) = refl
+pub numbers_stay : (v : Result ⊤ Refusal) → old_number (in_old_words v) ≡ verdict_number v
+numbers_stay (Ok tt) = refl
+numbers_stay (Err Running) = refl
+numbers_stay (Err NoSuchAddress) = refl
+numbers_stay (Err InUse) = refl
+numbers_stay (Err NoRoom) = refl
+numbers_stay (Err NoMaster) = refl
+numbers_stay (Err NoTarget) = refl
+numbers_stay (Err NoSlave) = refl
+numbers_stay (Err NoCommand) = refl
+numbers_stay (Err TooMuchData) = refl
+numbers_stay (Err OutboxFull) = refl
+numbers_stay (Err BookFull) = refl
 
 -- none of them is 6
-pub no_number_6 : (v : Verdict) → verdict_number v ≢ 6
-no_number_6 Done e = absurd (omega (arith, e))
-no_number_6 (Refused Running) e = absurd (omega (arith, e))
-no_number_6 (Refused NoSuchAddress) e = absurd (omega (arith, e))
-no_number_6 (Refused InUse) e = absurd (omega (arith, e))
-no_number_6 (Refused NoRoom) e = absurd (omega (arith, e))
-no_number_6 (Refused NoMaster) e = absurd (omega (arith, e))
-no_number_6 (Refused NoTarget) e = absurd (omega (arith, e))
-no_number_6 (Refused NoSlave) e = absurd (omega (arith, e))
-no_number_6 (Refused NoCommand) e = absurd (omega (arith, e))
-no_number_6 (Refused TooMuchData) e = absurd (omega (arith, e))
-no_number_6 (Refused OutboxFull) e = absurd (omega (arith, e))
-no_number_6 (Refused BookFull) e = absurd (omega (arith, e))
+pub no_number_6 : (v : Result ⊤ Refusal) → verdict_number v ≢ 6
+no_number_6 (Ok tt) e = absurd (omega (arith, e))
+no_number_6 (Err Running) e = absurd (omega (arith, e))
+no_number_6 (Err NoSuchAddress) e = absurd (omega (arith, e))
+no_number_6 (Err InUse) e = absurd (omega (arith, e))
+no_number_6 (Err NoRoom) e = absurd (omega (arith, e))
+no_number_6 (Err NoMaster) e = absurd (omega (arith, e))
+no_number_6 (Err NoTarget) e = absurd (omega (arith, e))
+no_number_6 (Err NoSlave) e = absurd (omega (arith, e))
+no_number_6 (Err NoCommand) e = absurd (omega (arith, e))
+no_number_6 (Err TooMuchData) e = absurd (omega (arith, e))
+no_number_6 (Err OutboxFull) e = absurd (omega (arith, e))
+no_number_6 (Err BookFull) e = absurd (omega (arith, e))
 
 -- the last word on the old rule: no call on any bus was ever given 6
 pub never_6 : (b : Bus) (c : Call) → old_number (old_verdict_on b c) ≢ 6

@@ -27,7 +27,7 @@ use Rattle.bus.specs.Find.{in_transfer, meets, first_of, there_is}
 use Rattle.bus.specs.Slot.{spoken, slot_heard, slot_run}
 use Rattle.bus.specs.Time.{since_owns, elapsed, time_of}
 use Rattle.bus.specs.Told as bus
-use Rattle.bus.specs.declared.bus.Answer.{Answer}
+use Rattle.bus.specs.Bus.{Answer}
 use Rattle.bus.specs.declared.bus.Bus.{Bus}
 use Rattle.bus.specs.declared.find.Query.TheVariants.{ToldOwns, InTransfer}
 use Rattle.bus.specs.declared.time.Time.{Time}

@@ -27,7 +27,7 @@ use Rattle.station.proofs.Aa.{IsSyn, aa, NoSyn, quiet, symbol, by_sound}
 use Rattle.station.proofs.Frame.{Begins, as_it_stood, answers, ready_begins, ready_outbox, outbox_after_lem}
 use Rattle.station.proofs.Turned.{moves_of}
 use Rattle.bus.specs.declared.bus.Bus.{Bus}
-use Rattle.bus.specs.declared.bus.Answer.{Answer}
+use Rattle.bus.specs.Bus.{Answer}
 use Rattle.bus.specs.Bus.{powered_on, attached_to, turn_at}
 use Rattle.bus.specs.Attach.{newcomer}
 use Rattle.bus.specs.Slot.{spoken, turned, slot_heard, slot_run}

@@ -9,11 +9,10 @@ use lib.ListN.{length, get_or, take}
 use lib.Seq.{get_or-take, length-take-le}
 use Rattle.laws.proofs.FirstIs.{Every, none, next}
 use Rattle.address.specs.Master.{rank_of}
-use Rattle.address.specs.declared.Rank.TheVariants.{Of}
+use Rattle.std.specs.Prelude.{Some, None, Option}
 use Rattle.address.proofs.Masters.{master_exactly_when_ranked}
 use Rattle.ranks.specs.Bits.{with_rank, least_of, IsSet, ranks}
 use Rattle.ranks.specs.Before.{or_before}
-use Rattle.ranks.specs.declared.Next.{Next}
 use Rattle.ranks.proofs.Digits.{none_set}
 use Rattle.ranks.proofs.LeastRank.{least_none, least_with, few_with, set_with}
 use Rattle.station.specs.Admission.{admits_after, admits, bids}
@@ -97,7 +96,7 @@ admitted_master r i l = each_station OnlyMasters new_masters (λ t m _ w. w) (λ
 -- its address is a byte, and if it bids it has a rank
 record Ranked (t : Turn) : Type 0 where
   byte : t.station.address < 256
-  rank : bids t.station ≡ true → (r : ℕ) × (rank_of t.station.address ≡ Of r)
+  rank : bids t.station ≡ true → (r : ℕ) × (rank_of t.station.address ≡ Some r)
 
 walk_from_lem : (w : ℕ) {ts : List Turn} → w < 2 ^ ranks → Every Ranked ts → (least_of (with_bids w ts) ≡ walk_from (least_of w) ts) × (with_bids w ts < 2 ^ ranks)
 unfolding with_bid
@@ -110,7 +109,7 @@ walk_from_lem w l (next {a = t} {l = ts} k ks) = go (bids t.station) refl (λ v 
     go true e on =
         let r = k.rank e in
         let p = on (with_rank w t.station.address) (few_with w t.station.address k.byte l) in
-        (p.0 ∙ ap (λ (n : Next). walk_from n ts) (least_with w t.station.address r.0 l k.byte r.1), p.1)
+        (p.0 ∙ ap (λ (n : Option ℕ). walk_from n ts) (least_with w t.station.address r.0 l k.byte r.1), p.1)
     go false e on = on w l
 
 -- one of these bids and has rank r
@@ -118,20 +117,20 @@ record Among (ts : List Turn) (r : ℕ) : Type 0 where
   seat : ℕ
   there : seat < length ts
   bid : bids (get_or ts seat unseated).station ≡ true
-  rank : rank_of (get_or ts seat unseated).station.address ≡ Of r
+  rank : rank_of (get_or ts seat unseated).station.address ≡ Some r
 
-first_of : {t : Turn} {ts : List Turn} {r : ℕ} → bids t.station ≡ true → rank_of t.station.address ≡ Of r → Among (t ∷ ts) r
+first_of : {t : Turn} {ts : List Turn} {r : ℕ} → bids t.station ≡ true → rank_of t.station.address ≡ Some r → Among (t ∷ ts) r
 first_of e f = record { seat = 0; there = omega arith; bid = e; rank = f }
 
 later : {t : Turn} {ts : List Turn} {r : ℕ} → Among ts r → Among (t ∷ ts) r
 later m = record { seat = suc m.seat; there = omega (arith, m.there); bid = m.bid; rank = m.rank }
 
 -- a bit is set that was set, or by the station itself
-set_bid : (r w : ℕ) (t : Turn) → IsSet r (with_bid w t) ↔ (IsSet r w ⊎ ((bids t.station ≡ true) × (rank_of t.station.address ≡ Of r)))
+set_bid : (r w : ℕ) (t : Turn) → IsSet r (with_bid w t) ↔ (IsSet r w ⊎ ((bids t.station ≡ true) × (rank_of t.station.address ≡ Some r)))
 unfolding with_bid
 set_bid r w t = go (bids t.station)
   where
-    go : (u : Bool) → IsSet r (cond u (with_rank w t.station.address) w) ↔ (IsSet r w ⊎ ((u ≡ true) × (rank_of t.station.address ≡ Of r)))
+    go : (u : Bool) → IsSet r (cond u (with_rank w t.station.address) w) ↔ (IsSet r w ⊎ ((u ≡ true) × (rank_of t.station.address ≡ Some r)))
     go true =
         let v = set_with r w t.station.address in
         (λ s. ⊎_elim inl (λ e. inr (refl, e)) (v.0 s), λ s. v.1 (⊎_elim inl (λ p. inr p.1) s))
@@ -141,21 +140,21 @@ set_bids : (r w : ℕ) (ts : List Turn) → IsSet r (with_bids w ts) ↔ (IsSet 
 set_bids r w [] = (inl, λ s. ⊎_elim (λ x. x) (λ m. absurd (omega (arith, m.there))) s)
 set_bids r w (t ∷ ts) = go (set_bids r (with_bid w t) ts) (set_bid r w t)
   where
-    there : IsSet r w ⊎ ((bids t.station ≡ true) × (rank_of t.station.address ≡ Of r)) → IsSet r w ⊎ Among (t ∷ ts) r
+    there : IsSet r w ⊎ ((bids t.station ≡ true) × (rank_of t.station.address ≡ Some r)) → IsSet r w ⊎ Among (t ∷ ts) r
     there (inl s) = inl s
     there (inr p) = inr (first_of p.0 p.1)
 
-    back : (IsSet r w ⊎ ((bids t.station ≡ true) × (rank_of t.station.address ≡ Of r)) → IsSet r (with_bid w t))
+    back : (IsSet r w ⊎ ((bids t.station ≡ true) × (rank_of t.station.address ≡ Some r)) → IsSet r (with_bid w t))
         → Among (t ∷ ts) r → IsSet r (with_bid w t) ⊎ Among ts r
     back f m = at m.seat m.there m.bid m.rank
       where
-        at : (i : ℕ) → i < length (t ∷ ts) → bids (get_or (t ∷ ts) i unseated).station ≡ true → rank_of (get_or (t ∷ ts) i unseated).station.address ≡ Of r
+        at : (i : ℕ) → i < length (t ∷ ts) → bids (get_or (t ∷ ts) i unseated).station ≡ true → rank_of (get_or (t ∷ ts) i unseated).station.address ≡ Some r
             → IsSet r (with_bid w t) ⊎ Among ts r
         at zero l e g = inl (f (inr (e, g)))
         at (suc i) l e g = inr (record { seat = i; there = omega arith; bid = e; rank = g })
 
     go : (IsSet r (with_bids (with_bid w t) ts) ↔ (IsSet r (with_bid w t) ⊎ Among ts r))
-        → (IsSet r (with_bid w t) ↔ (IsSet r w ⊎ ((bids t.station ≡ true) × (rank_of t.station.address ≡ Of r))))
+        → (IsSet r (with_bid w t) ↔ (IsSet r w ⊎ ((bids t.station ≡ true) × (rank_of t.station.address ≡ Some r))))
         → IsSet r (with_bids (with_bid w t) ts) ↔ (IsSet r w ⊎ Among (t ∷ ts) r)
     go on one = (
       λ s. ⊎_elim (λ x. there (one.0 x)) (λ m. inr (later m)) (on.0 s),
@@ -185,7 +184,7 @@ module _ (b : Bus) (kept : Kept b) (fit : Fit b) (masters : (i : ℕ) → i < at
   pub walk_is_next : next_of b ≡ walk_over b
   unfolding next_of walk_over gathered
   walk_is_next =
-      ap least_of kept.bits ∙ (walk_from_lem 0 (omega arith) seats_ranked).0 ∙ ap (λ (n : Next). walk_from n (attached_turns b)) least_none
+      ap least_of kept.bits ∙ (walk_from_lem 0 (omega arith) seats_ranked).0 ∙ ap (λ (n : Option ℕ). walk_from n (attached_turns b)) least_none
 
   pub bits_below : b.waiting < 2 ^ ranks
   unfolding gathered

@@ -9,11 +9,9 @@ use native.Mathlib.Nat.{eq-zero-or-pos}
 use native.Mathlib.Omega.{arith}
 use lib.Count.{count_trailing_zeros}
 use Rattle.address.specs.Master.{master_at}
-use Rattle.address.specs.declared.Rank.TheVariants.{Of}
+use Rattle.std.specs.Prelude.{Some, None, Option}
 use Rattle.address.proofs.Ranks.{master_of_rank}
 use Rattle.ranks.specs.Bits.{least_of, IsSet, ranks}
-use Rattle.ranks.specs.declared.Next.{Next}
-use Rattle.ranks.specs.declared.Next.TheVariants.{Master, Nobody}
 use Rattle.ranks.proofs.LeastRank.{least_none, least_means}
 use Rattle.ranks.proofs.Digits.{none_set}
 use Rattle.station.specs.Admission.{bids}
@@ -40,19 +38,19 @@ use Rattle.promises.proofs.Shared.FitKept.{slot_fit, reachable_fit}
 use Rattle.promises.proofs.Shared.Seats.{attached_slot, slot_seat}
 use Rattle.promises.proofs.TheLeast.{syn_fit, calls_fit, one_rank, attached_master_ranks, least_rank_owns_by_the_twelfth}
 
-shown : Next → ℕ
-shown (Master a) = a
-shown Nobody = 256
+shown : Option ℕ → ℕ
+shown (Some a) = a
+shown None = 256
 
-somebody : Next → Bool
-somebody (Master a) = true
-somebody Nobody = false
+somebody : Option ℕ → Bool
+somebody (Some a) = true
+somebody None = false
 
 -- ---- the answer, of any bus whose bits mean what they say
 
 module _ (b : Bus) (few : b.waiting < 2 ^ ranks) (means : (r : ℕ) → (IsSet r b.waiting → MasterWaits b r) × (MasterWaits b r → IsSet r b.waiting)) where
   -- with nobody next, nobody is admitted with a telegram waiting
-  nobody_waits : next_of b ≡ Nobody → (r : ℕ) → MasterWaits b r → ⊥
+  nobody_waits : next_of b ≡ None → (r : ℕ) → MasterWaits b r → ⊥
   unfolding next_of somebody
   nobody_waits e r m = ⊎_elim none some (eq-zero-or-pos b.waiting)
     where
@@ -69,7 +67,7 @@ module _ (b : Bus) (few : b.waiting < 2 ^ ranks) (means : (r : ℕ) → (IsSet r
     waits : MasterWaits b rank
     least : (r : ℕ) → MasterWaits b r → rank ≤ r
 
-  lowers : (a : ℕ) → next_of b ≡ Master a → Lowers a
+  lowers : (a : ℕ) → next_of b ≡ Some a → Lowers a
   unfolding next_of shown somebody
   lowers a e = ⊎_elim none some (eq-zero-or-pos b.waiting)
     where
@@ -114,7 +112,7 @@ module _ {b : Bus} (r : Reachable b) (c : Call) (s : SynHeardIn b c) (before : L
   contender_waits : {i k : ℕ} → Contends begins i → Ranks begins i k → MasterWaits begins k
   contender_waits {i} d e = record { seat = i; contends = d; master = masters i d.attached d.admitted; ranks = e }
 
-  owns_by_the_twelfth : (a : ℕ) → next_of begins ≡ Master a → (calls : List Call) → Each Undisturbed calls → slots_in (slot ∷ calls) ≡ 12
+  owns_by_the_twelfth : (a : ℕ) → next_of begins ≡ Some a → (calls : List Call) → Each Undisturbed calls → slots_in (slot ∷ calls) ≡ 12
       → (i : ℕ) × (i < attached_to begins) × ((station_at begins i).address ≡ a) × OwnsInOneOf i begins (slot ∷ calls)
   owns_by_the_twelfth a e calls v n =
       let l = lowers begins few means a e in
@@ -129,11 +127,11 @@ module _ {b : Bus} (r : Reachable b) (c : Call) (s : SynHeardIn b c) (before : L
       let same : o.rank ≡ l.rank = omega arith in (
         i,
         d.attached,
-        sym (master_of_rank (station_at begins i).address l.rank (fit.addressed i d.attached).byte (o.ranks ∙ ap Of same)) ∙ l.its,
+        sym (master_of_rank (station_at begins i).address l.rank (fit.addressed i d.attached).byte (o.ranks ∙ ap Some same)) ∙ l.its,
         w.2,
       )
 
-  silent : next_of begins ≡ Nobody → (i : ℕ) → i < attached_to begins → (bids (station_at begins i) ≡ false) × (said_by (turn_at begins i) ≡ Quiet)
+  silent : next_of begins ≡ None → (i : ℕ) → i < attached_to begins → (bids (station_at begins i) ≡ false) × (said_by (turn_at begins i) ≡ Quiet)
   silent e i l = go (bids (station_at begins i)) refl
     where
       go : (t : Bool) → bids (station_at begins i) ≡ t → (bids (station_at begins i) ≡ false) × (said_by (turn_at begins i) ≡ Quiet)
@@ -153,7 +151,7 @@ pub next_owns_by_the_twelfth : {b : Bus}
     -- then users may queue, set replies and have an attach refused, and the next slot begins
     → (before : List Call) → Each Between before
     -- the answer is then a master
-    → (a : ℕ) → next_of (after_calls (after_call b c) before) ≡ Master a
+    → (a : ℕ) → next_of (after_calls (after_call b c) before) ≡ Some a
     -- that slot and eleven more are undisturbed, with any such calls between them
     → (calls : List Call) → Each Undisturbed calls → slots_in (slot ∷ calls) ≡ 12
     -- the attached station with that address becomes owner in one of the twelve
@@ -164,7 +162,7 @@ next_owns_by_the_twelfth r c s before u a e calls v n = owns_by_the_twelfth r c 
 -- with nobody next after a SYN, no station bids in the next slot, and none says anything
 pub next_nobody_bids : {b : Bus}
     → Reachable b → (c : Call) → SynHeardIn b c → (before : List Call) → Each Between before
-    → next_of (after_calls (after_call b c) before) ≡ Nobody
+    → next_of (after_calls (after_call b c) before) ≡ None
     → (i : ℕ) → i < attached_to (after_calls (after_call b c) before)
     → (bids (station_at (after_calls (after_call b c) before) i) ≡ false) × (said_by (turn_at (after_calls (after_call b c) before) i) ≡ Quiet)
 next_nobody_bids r c s before u e i l = silent r c s before u e i l
@@ -172,7 +170,7 @@ next_nobody_bids r c s before u e i l = silent r c s before u e i l
 -- ---- after any other slot
 
 -- a slot in which all hear anything but AA leaves nobody next
-pub nobody_but_after_syn : {b : Bus} → Reachable b → (h : Sound) → (h ≡ Symbol syn → ⊥) → next_of (slot_heard b h) ≡ Nobody
+pub nobody_but_after_syn : {b : Bus} → Reachable b → (h : Sound) → (h ≡ Symbol syn → ⊥) → next_of (slot_heard b h) ≡ None
 nobody_but_after_syn {b} r h n = by_sound h (λ i. absurd (not_syn i n)) (λ q. go q (next_of (slot_heard b h)) refl)
   where
     not_syn : {x : Sound} → IsSyn x → (x ≡ Symbol syn → ⊥) → ⊥
@@ -185,9 +183,9 @@ nobody_but_after_syn {b} r h n = by_sound h (λ i. absurd (not_syn i n)) (λ q. 
     masters : NoSyn h → (i : ℕ) → i < attached_to (slot_heard b h) → OnlyMasters (turn_at (slot_heard b h) i)
     masters q i l e = absurd (false≢true (sym (unadmitted q i l) ∙ e))
 
-    go : NoSyn h → (x : Next) → next_of (slot_heard b h) ≡ x → next_of (slot_heard b h) ≡ Nobody
-    go q Nobody e = e
-    go q (Master a) e =
+    go : NoSyn h → (x : Option ℕ) → next_of (slot_heard b h) ≡ x → next_of (slot_heard b h) ≡ None
+    go q None e = e
+    go q (Some a) e =
         let k = kept_call b (heard h) (reachable_kept r) in
         let f = slot_fit b h (reachable_fit r) in
         let l = lowers (slot_heard b h) (bits_below (slot_heard b h) k f (masters q)) (bit_means (slot_heard b h) k f (masters q)) a e in

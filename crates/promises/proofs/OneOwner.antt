@@ -19,7 +19,7 @@ use Rattle.station.proofs.Ownership.{becomes_owner, ready_ownership}
 use Rattle.station.proofs.Possible.{Possible, fresh_possible, ready_possible, hears_possible}
 use Rattle.station.specs.Station.{answering}
 use Rattle.bus.specs.declared.bus.Bus.{Bus}
-use Rattle.bus.specs.declared.bus.Answer.{Answer}
+use Rattle.bus.specs.Bus.{Answer}
 use Rattle.bus.specs.Bus.{powered_on, attached_to}
 use Rattle.bus.specs.Attach.{newcomer}
 use Rattle.bus.specs.Slot.{slot_heard}

@@ -3,17 +3,17 @@ use mathlib.Core.Path.{◌≡◌, refl}
 use Prim.Native.Nat.{ℕ}
 use native.Mathlib.Omega.{arith}
 use Rattle.bus.specs.declared.bus.Bus.{Bus}
-use Rattle.bus.specs.declared.bus.Answer.{Answer}
+use Rattle.bus.specs.Bus.{Answer}
 use Rattle.bus.specs.declared.refusal.Refusal.{Refusal}
-use Rattle.bus.specs.declared.refusal.Verdict.TheVariants.{Done, Refused}
+use Rattle.std.specs.Prelude.{Result, Ok, Err, ⊤}
 use Rattle.promises.specs.Calls.{Call, attach, queue, reply, slot, heard, after_call}
 use Rattle.promises.specs.Slots.{verdict_on}
 use Rattle.promises.proofs.Shared.Seats.{Did, refused, attached, queued, replied, did_attach, did_queue, did_reply}
 
-done_not : {A : Type 0} {r : Refusal} → Done ≡ Refused r → A
+done_not : {A : Type 0} {r : Refusal} → ◌≡◌ {A = Result ⊤ Refusal} (Ok tt) (Err r) → A
 done_not e = let z : ◌≡◌ {A = ℕ} 0 1 = cc in absurd (omega arith)
 
-as_it_was : {b : Bus} {c : Call} {x : Answer} {r : Refusal} → Did b c x → x.verdict ≡ Refused r → x.bus ≡ b
+as_it_was : {b : Bus} {c : Call} {x : Answer} {r : Refusal} → Did b c x → x.verdict ≡ Err r → x.bus ≡ b
 as_it_was (refused _) e = refl
 as_it_was (attached _ _ _ _) e = done_not e
 as_it_was (queued _ _ _) e = done_not e
@@ -24,7 +24,7 @@ pub refused_changes_nothing :
     -- any bus, and any call on it
     (b : Bus) (c : Call) {r : Refusal}
     -- which is refused
-    → verdict_on b c ≡ Refused r
+    → verdict_on b c ≡ Err r
     -- the bus is as it was
     → after_call b c ≡ b
 refused_changes_nothing b (attach a m) e = as_it_was (did_attach b a m) e

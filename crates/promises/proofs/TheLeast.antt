@@ -10,8 +10,7 @@ use native.Mathlib.Omega.{arith}
 use borrow.Author.Tests.{ltb-true, ltb-false}
 use lib.Dec.{ltb}
 use Rattle.address.specs.Master.{rank_of}
-use Rattle.address.specs.declared.Rank.{Rank}
-use Rattle.address.specs.declared.Rank.TheVariants.{Of, Nobody}
+use Rattle.std.specs.Prelude.{Option, Some, None}
 use Rattle.address.proofs.Masters.{master_exactly_when_ranked}
 use Rattle.address.proofs.Ranks.{ranks_distinct}
 use Rattle.station.specs.Admission.{bids}
@@ -30,15 +29,15 @@ use Rattle.promises.proofs.Contest.Twelfth.{Begun, begun_heard, begun_between, a
 
 -- ---- there is one
 
-rank_number : Rank → ℕ
-rank_number (Of r) = r
-rank_number Nobody = 25
+rank_number : Option ℕ → ℕ
+rank_number (Some r) = r
+rank_number None = 25
 
-rank_of_lem : (k : Rank) (r : ℕ) → k ≡ Of r → rank_number k ≡ r
+rank_of_lem : (k : Option ℕ) (r : ℕ) → k ≡ Some r → rank_number k ≡ r
 unfolding rank_number
 rank_of_lem k r e = ap rank_number e
 
-pub one_rank : {k : Rank} {r q : ℕ} → k ≡ Of r → k ≡ Of q → r ≡ q
+pub one_rank : {k : Option ℕ} {r q : ℕ} → k ≡ Some r → k ≡ Some q → r ≡ q
 one_rank {k} {r} {q} e g = sym (rank_of_lem k r e) ∙ rank_of_lem k q g
 
 module _ (b : Bus) where
@@ -145,7 +144,7 @@ module _ (b : Bus) (f : Fit b) (g : Begun b) where
       let e : m.rank ≡ l.rank = omega arith in
       let same : (station_at b j).address ≡ (station_at b i).address
       = ranks_distinct (station_at b j).address (station_at b i).address l.rank (f.addressed j d.attached).byte (f.addressed i c.attached).byte
-      (m.ranks ∙ ap Of e) l.ranks in
+      (m.ranks ∙ ap Some e) l.ranks in
       one_address f j i d.attached c.attached same
 
 -- the demand: "if a SYN is heard and the next twelve slots are undisturbed, then among the masters which that SYN admits and which

@@ -29,8 +29,8 @@ use Rattle.station.specs.Replies.{answer_for}
 use Rattle.laws.proofs.FirstIs.{Every, every_map}
 use Rattle.bus.specs.declared.bus.Bus.{Bus}
 use Rattle.bus.specs.Bus.{attached_to}
-use Rattle.bus.specs.declared.refusal.Verdict.{Verdict}
-use Rattle.bus.specs.declared.refusal.Verdict.TheVariants.{Done}
+use Rattle.std.specs.Prelude.{Result, Ok, Err, ⊤}
+use Rattle.bus.specs.declared.refusal.Refusal.{Refusal}
 use Rattle.bus.specs.Conditions.{verdict_number, NoSource, Forbidden, WrongTarget, WrongCommand, MuchData, NoSlaveThere}
 use Rattle.bus.proofs.DoneChanges.{queue_done}
 use Rattle.bus.proofs.Reflects.{first_holds}
@@ -54,10 +54,10 @@ carried : (bytes : List ℕ) → (MuchData bytes → ⊥) → bytes_of (load_of 
 carried bytes few = load_carries bytes (omega arith)
 
 -- a call that is done was given no number of the table
-no_number : {v : Verdict} {n : ℕ} → v ≡ Done → verdict_number v ≡ suc n → ⊥
+no_number : {v : Result ⊤ Refusal} {n : ℕ} → v ≡ Ok tt → verdict_number v ≡ suc n → ⊥
 no_number d e = absurd (omega (arith, ap verdict_number d, e))
 
-module _ (b : Bus) (qq zz pb sb : ℕ) (bytes : List ℕ) (d : verdict_on b (queue qq zz pb sb bytes) ≡ Done) where
+module _ (b : Bus) (qq zz pb sb : ℕ) (bytes : List ℕ) (d : verdict_on b (queue qq zz pb sb bytes) ≡ Ok tt) where
   source_there : NoSource b qq → ⊥
   source_there w = no_number d ((Q.refused_1 b qq zz pb sb bytes).1 w)
 
@@ -85,7 +85,7 @@ module _ (b : Bus) (qq zz pb sb : ℕ) (bytes : List ℕ) (d : verdict_on b (que
         sb = usable sb (λ w. command_right (inr w));
       }
 
-module _ (b : Bus) (a pb sb : ℕ) (bytes : List ℕ) (d : verdict_on b (reply a pb sb bytes) ≡ Done) where
+module _ (b : Bus) (a pb sb : ℕ) (bytes : List ℕ) (d : verdict_on b (reply a pb sb bytes) ≡ Ok tt) where
   slave_there : NoSlaveThere b a → ⊥
   slave_there w = no_number d ((R.refused_11 b a pb sb bytes).1 w)
 
@@ -127,7 +127,7 @@ pub queued_read_back : {b : Bus}
     -- then a queue call
     → (qq zz pb sb : ℕ) (bytes : List ℕ)
     -- that is not refused
-    → verdict_on b (queue qq zz pb sb bytes) ≡ Done
+    → verdict_on b (queue qq zz pb sb bytes) ≡ Ok tt
     -- whatever stands in the memory of a reader (an array of 16 bytes)
     → (p : Telegram) → Sixteen p.load
     -- and whatever symbols follow the wire form
@@ -144,7 +144,7 @@ pub queued_one_form :
     -- any bus, and a queue call on it
     (b : Bus) (qq zz pb sb : ℕ) (bytes : List ℕ)
     -- that is not refused
-    → verdict_on b (queue qq zz pb sb bytes) ≡ Done
+    → verdict_on b (queue qq zz pb sb bytes) ≡ Ok tt
     -- whatever stands in the memory of a reader (an array of 16 bytes)
     → (p : Telegram) → Sixteen p.load
     -- any symbols
@@ -168,7 +168,7 @@ pub replied_read_back :
     -- any bus, and a reply call on it, with a slave address, PB, SB and bytes
     (b : Bus) (a pb sb : ℕ) (bytes : List ℕ)
     -- that is not refused
-    → verdict_on b (reply a pb sb bytes) ≡ Done
+    → verdict_on b (reply a pb sb bytes) ≡ Ok tt
     -- whatever stands in the memory of a reader (an array of 16 bytes)
     → (p : Telegram) → Sixteen p.load
     -- and whatever symbols follow the wire form
@@ -184,7 +184,7 @@ pub replied_one_form :
     -- any bus, and a reply call on it, with a slave address, PB, SB and bytes
     (b : Bus) (a pb sb : ℕ) (bytes : List ℕ)
     -- that is not refused
-    → verdict_on b (reply a pb sb bytes) ≡ Done
+    → verdict_on b (reply a pb sb bytes) ≡ Ok tt
     -- whatever stands in the memory of a reader (an array of 16 bytes)
     → (p : Telegram) → Sixteen p.load
     -- any symbols
@@ -219,7 +219,7 @@ pub queued_fits :
     -- any bus, and a queue call on it
     (b : Bus) (qq zz pb sb : ℕ) (bytes : List ℕ)
     -- that is not refused
-    → verdict_on b (queue qq zz pb sb bytes) ≡ Done
+    → verdict_on b (queue qq zz pb sb bytes) ≡ Ok tt
     -- QQ ZZ PB SB, NN, all of these bytes, CRC
     → Fits 39 (form (qq ∷ zz ∷ pb ∷ sb ∷ []) bytes) (holding (telegram_form (telegram_of qq zz pb sb bytes)))
 unfolding telegram_form
@@ -233,7 +233,7 @@ pub replied_fits :
     -- any bus, and a reply call on it, with a slave address, PB, SB and bytes
     (b : Bus) (a pb sb : ℕ) (bytes : List ℕ)
     -- that is not refused
-    → verdict_on b (reply a pb sb bytes) ≡ Done
+    → verdict_on b (reply a pb sb bytes) ≡ Ok tt
     -- NN, all of these bytes, CRC
     → Fits 35 (form [] bytes) (holding (answer_form (load_of bytes)))
 unfolding answer_form

@@ -1,7 +1,7 @@
 -- The words of demand 3's twelve-slot clause: who owns the wire by the twelfth slot after a SYN (01, "Admission"). Assumes nothing.
 use Rattle.std.specs.Prelude.{◌≡◌, Bool, true, List, [], ◌∷◌, ℕ, ◌≤◌, ◌<◌}
 use Rattle.address.specs.Master.{rank_of}
-use Rattle.address.specs.declared.Rank.TheVariants.{Of}
+use Rattle.std.specs.Prelude.{Some, None}
 use Rattle.station.specs.Outbox.{held_in}
 use Rattle.station.specs.Phase.{owner}
 use Rattle.station.specs.Station.{syn}
@@ -41,7 +41,7 @@ pub record Contends (b : Bus) (i : ℕ) : Type 0 where
 
 -- it has this rank: class first, then sub-address
 abbrev pub Ranks : Bus → ℕ → ℕ → Type 0
-Ranks b i r = rank_of (station_at b i).address ≡ Of r
+Ranks b i r = rank_of (station_at b i).address ≡ Some r
 
 -- it has a rank, so has everyone who contends, and none of them ranks before it
 pub record LeastRank (b : Bus) (i : ℕ) : Type 0 where

@@ -2,8 +2,8 @@
 use Rattle.std.specs.Prelude.{List, [], ◌∷◌, ℕ, ◌+◌}
 use Rattle.station.specs.declared.phase.Sound.{Sound}
 use Rattle.bus.specs.declared.bus.Bus.{Bus}
-use Rattle.bus.specs.declared.refusal.Verdict.{Verdict}
-use Rattle.bus.specs.declared.refusal.Verdict.TheVariants.{Done}
+use Rattle.std.specs.Prelude.{Result, Ok, Err, ⊤}
+use Rattle.bus.specs.declared.refusal.Refusal.{Refusal}
 use Rattle.bus.specs.Attach.{attaches}
 use Rattle.bus.specs.Queue.{queues}
 use Rattle.bus.specs.Reply.{replies}
@@ -29,9 +29,9 @@ pub data AllHear (b : Bus) : Call → Sound → Type 0 where
   disturbed : {h : Sound} → AllHear b (heard h) h
 
 -- the verdict on a call; a slot is never turned down
-abbrev pub verdict_on : Bus → Call → Verdict
+abbrev pub verdict_on : Bus → Call → Result ⊤ Refusal
 verdict_on b (attach a master) = (attaches b a master).verdict
 verdict_on b (queue qq zz pb sb bytes) = (queues b qq zz pb sb bytes).verdict
 verdict_on b (reply a pb sb bytes) = (replies b a pb sb bytes).verdict
-verdict_on b slot = Done
-verdict_on b (heard h) = Done
+verdict_on b slot = Ok tt
+verdict_on b (heard h) = Ok tt

@@ -13,36 +13,33 @@ use lib.Dec.{eqb, ltb}
 use lib.Pow.{pow-lt, pow_pos}
 use Rattle.laws.proofs.Computed.{alike}
 use Rattle.address.specs.Master.{rank_of, master_at}
-use Rattle.address.specs.declared.Rank.{Rank}
-use Rattle.address.specs.declared.Rank.TheVariants as rank
+use Rattle.std.specs.Prelude.{Option, Some, None}
 use Rattle.address.proofs.Ranks.{master_of_rank, master_at_byte, rank_below}
-use Rattle.ranks.specs.declared.Next.{Next}
-use Rattle.ranks.specs.declared.Next.TheVariants.{Master, Nobody}
 use Rattle.ranks.specs.Before.{before, or_before}
 use Rattle.ranks.specs.Bits.{bit_of, with_rank, least_of, IsSet, ranks}
 use Rattle.ranks.proofs.Digits.{or_assoc, set_or, set_pow, none_set, trailing_or, Lowest, lowest_set}
 
 -- ---- which bits are set
 
-abbrev is_of : Rank → ℕ
-is_of (rank.Of r) = r
-is_of rank.Nobody = 25
+abbrev is_of : Option ℕ → ℕ
+is_of (Some r) = r
+is_of None = 25
 
-set_bit : (k : Rank) (r : ℕ) → IsSet r (bit_of k) ↔ (k ≡ rank.Of r)
-set_bit (rank.Of q) r =
+set_bit : (k : Option ℕ) (r : ℕ) → IsSet r (bit_of k) ↔ (k ≡ Some r)
+set_bit (Some q) r =
     let w = set_pow r q in
-    (λ s. ap rank.Of (sym (w.0 s)), λ e. w.1 (sym (ap is_of e)))
-set_bit rank.Nobody r = (λ s. absurd (omega (arith, s, none_set r)), λ e. absurd (nobodys e))
+    (λ s. ap Some (sym (w.0 s)), λ e. w.1 (sym (ap is_of e)))
+set_bit None r = (λ s. absurd (omega (arith, s, none_set r)), λ e. absurd (nobodys e))
   where
-    ranked : Rank → ℕ
-    ranked (rank.Of q) = 1
-    ranked rank.Nobody = 0
+    ranked : Option ℕ → ℕ
+    ranked (Some q) = 1
+    ranked None = 0
 
-    nobodys : rank.Nobody ≡ rank.Of r → ⊥
+    nobodys : None ≡ Some r → ⊥
     nobodys e = let z : ◌≡◌ {A = ℕ} 0 1 = ap ranked e in omega arith
 
 -- one master more: its bit, and those that were set
-pub set_with : (r bits a : ℕ) → IsSet r (with_rank bits a) ↔ (IsSet r bits ⊎ (rank_of a ≡ rank.Of r))
+pub set_with : (r bits a : ℕ) → IsSet r (with_rank bits a) ↔ (IsSet r bits ⊎ (rank_of a ≡ Some r))
 unfolding with_rank
 set_with r bits a =
     let w = set_or r bits (bit_of (rank_of a)) in
@@ -54,33 +51,33 @@ pub few_with : (bits a : ℕ) → a < 256 → bits < 2 ^ ranks → with_rank bit
 unfolding with_rank
 few_with bits a h l = or_lt 25 bits (bit_of (rank_of a)) l (go (rank_of a) refl)
   where
-    go : (k : Rank) → rank_of a ≡ k → bit_of k < 2 ^ 25
-    go (rank.Of r) e = pow-lt {j = 25} (rank_below a r h e)
-    go rank.Nobody e = omega arith
+    go : (k : Option ℕ) → rank_of a ≡ k → bit_of k < 2 ^ 25
+    go (Some r) e = pow-lt {j = 25} (rank_below a r h e)
+    go None e = omega arith
 
 -- ---- the least
 
 -- nobody exactly where no bit is set, else the master of the lowest
-pub least_means : (bits : ℕ) → 0 < bits → bits < 2 ^ ranks → (least_of bits ≡ Master (master_at (count_trailing_zeros 32 bits))) × Lowest (count_trailing_zeros 32 bits) ranks bits
+pub least_means : (bits : ℕ) → 0 < bits → bits < 2 ^ ranks → (least_of bits ≡ Some (master_at (count_trailing_zeros 32 bits))) × Lowest (count_trailing_zeros 32 bits) ranks bits
 unfolding least_of
 least_means bits p l =
     let n : bits ≡ 0 → ⊥ = λ e. omega arith in
     (simp (ne_eqb bits 0 n), lowest_set 32 25 bits (omega arith) p l)
 
-pub least_none : least_of 0 ≡ Nobody
+pub least_none : least_of 0 ≡ None
 unfolding least_of
 least_none = refl
 
 -- an address is a byte
-pub data IsByte : Next → Type 0 where
-  master : {a : ℕ} → a < 256 → IsByte (Master a)
-  nobody : IsByte Nobody
+pub data IsByte : Option ℕ → Type 0 where
+  master : {a : ℕ} → a < 256 → IsByte (Some a)
+  nobody : IsByte None
 
 pub least_byte : (bits : ℕ) → IsByte (least_of bits)
 unfolding least_of
 least_byte bits = go (eqb bits 0)
   where
-    go : (t : Bool) → IsByte (cond t Nobody (Master (master_at (count_trailing_zeros 32 bits))))
+    go : (t : Bool) → IsByte (cond t None (Some (master_at (count_trailing_zeros 32 bits))))
     go true = nobody
     go false = master (master_at_byte (count_trailing_zeros 32 bits))
 
@@ -101,7 +98,7 @@ some_with : (w r : ℕ) → 0 < bit_or w (2 ^ r)
 some_with w r = omega (arith, or_add_and w (2 ^ r), and_le_l w (2 ^ r), pow_pos r)
 
 -- one master more: it is the least if it ranks before the least so far
-pub least_with : (w a r : ℕ) → w < 2 ^ ranks → a < 256 → rank_of a ≡ rank.Of r → least_of (with_rank w a) ≡ or_before (least_of w) a
+pub least_with : (w a r : ℕ) → w < 2 ^ ranks → a < 256 → rank_of a ≡ Some r → least_of (with_rank w a) ≡ or_before (least_of w) a
 unfolding least_of with_rank
 least_with w a r l h e =
     rw (e, ne_eqb (bit_or w (2 ^ r)) 0 (λ z. absurd (omega (arith, z, some_with w r))), trailing_or 32 r w (omega (arith, small)))
@@ -113,20 +110,20 @@ least_with w a r l h e =
     its : master_at r ≡ a
     its = master_of_rank a r h e
 
-    alone : w ≡ 0 → Master (master_at (min (count_trailing_zeros 32 w) r)) ≡ or_before (cond (eqb w 0) Nobody (Master (master_at (count_trailing_zeros 32 w)))) a
-    alone z = rw (z, trailing_of_zero 32, min-eq_right {n = r} {m = 32} (omega (arith, small))) (ap Master its)
+    alone : w ≡ 0 → Some (master_at (min (count_trailing_zeros 32 w) r)) ≡ or_before (cond (eqb w 0) None (Some (master_at (count_trailing_zeros 32 w)))) a
+    alone z = rw (z, trailing_of_zero 32, min-eq_right {n = r} {m = 32} (omega (arith, small))) (ap Some its)
 
-    others : 0 < w → Master (master_at (min (count_trailing_zeros 32 w) r)) ≡ or_before (cond (eqb w 0) Nobody (Master (master_at (count_trailing_zeros 32 w)))) a
+    others : 0 < w → Some (master_at (min (count_trailing_zeros 32 w) r)) ≡ or_before (cond (eqb w 0) None (Some (master_at (count_trailing_zeros 32 w)))) a
     others p =
         let t : count_trailing_zeros 32 w < 25 = (lowest_set 32 25 w (omega arith) p l).below in
         rw (ne_eqb w 0 (λ z. absurd (omega arith)))
         (go (ltb r (count_trailing_zeros 32 w)) refl (ap (λ (x : ℕ). before x (master_at (count_trailing_zeros 32 w))) (sym its) ∙ before_is r (count_trailing_zeros 32 w) small t))
       where
         go : (u : Bool) → ltb r (count_trailing_zeros 32 w) ≡ u → before a (master_at (count_trailing_zeros 32 w)) ≡ ltb r (count_trailing_zeros 32 w)
-            → Master (master_at (min (count_trailing_zeros 32 w) r)) ≡ cond (before a (master_at (count_trailing_zeros 32 w))) (Master a) (Master (master_at (count_trailing_zeros 32 w)))
+            → Some (master_at (min (count_trailing_zeros 32 w) r)) ≡ cond (before a (master_at (count_trailing_zeros 32 w))) (Some a) (Some (master_at (count_trailing_zeros 32 w)))
         go true u b =
             let k = ltb-true r (count_trailing_zeros 32 w) u in
-            rw (b, u, min-eq_right {n = r} {m = count_trailing_zeros 32 w} (omega arith)) (ap Master its)
+            rw (b, u, min-eq_right {n = r} {m = count_trailing_zeros 32 w} (omega arith)) (ap Some its)
         go false u b =
             let k = ltb-false r (count_trailing_zeros 32 w) u in
             rw (b, u, min-eq_left {n = count_trailing_zeros 32 w} {m = r} (omega arith))

@@ -2,14 +2,13 @@
 -- or of numbers of ranks. Assumes nothing.
 use Rattle.std.specs.Prelude.{Bool, cond, ℕ, eqb, ltb}
 use Rattle.address.specs.Half.{low_half, high_half}
-use Rattle.ranks.specs.declared.Next.{Next}
-use Rattle.ranks.specs.declared.Next.TheVariants.{Master, Nobody}
+use Rattle.std.specs.Prelude.{Option, Some, None}
 
 -- by priority class and then by sub-address
 unfoldable pub before : ℕ → ℕ → Bool
 before a c = cond (eqb (low_half a) (low_half c)) (ltb (high_half a) (high_half c)) (ltb (low_half a) (low_half c))
 
 -- the one met first on the walk so far, or this one if it ranks before
-abbrev pub or_before : Next → ℕ → Next
-or_before Nobody a = Master a
-or_before (Master c) a = cond (before a c) (Master a) (Master c)
+abbrev pub or_before : Option ℕ → ℕ → Option ℕ
+or_before None a = Some a
+or_before (Some c) a = cond (before a c) (Some a) (Some c)

@@ -3,23 +3,20 @@ use Rattle.std.specs.Prelude.{◌≡◌, cond, ℕ, zero, suc, ◌/◌, ◌%◌,
 use Rattle.std.specs.Int.Bits.{bit_or}
 use Rattle.std.specs.Int.Count.{count_trailing_zeros}
 use Rattle.address.specs.Master.{rank_of, master_at}
-use Rattle.address.specs.declared.Rank.{Rank}
-use Rattle.address.specs.declared.Rank.TheVariants as rank
-use Rattle.ranks.specs.declared.Next.{Next}
-use Rattle.ranks.specs.declared.Next.TheVariants.{Master, Nobody}
+use Rattle.std.specs.Prelude.{Option, Some, None}
 
 -- the bit of a rank; who has no rank has no bit
-abbrev pub bit_of : Rank → ℕ
-bit_of (rank.Of r) = 2 ^ r
-bit_of rank.Nobody = 0
+abbrev pub bit_of : Option ℕ → ℕ
+bit_of (Some r) = 2 ^ r
+bit_of None = 0
 
 -- the bits and that of this master
 unfoldable pub with_rank : ℕ → ℕ → ℕ
 with_rank bits a = bit_or bits (bit_of (rank_of a))
 
 -- the least rank is the count of trailing zeros; with no bit set, nobody
-unfoldable pub least_of : ℕ → Next
-least_of bits = cond (eqb bits 0) Nobody (Master (master_at (count_trailing_zeros 32 bits)))
+unfoldable pub least_of : ℕ → Option ℕ
+least_of bits = cond (eqb bits 0) None (Some (master_at (count_trailing_zeros 32 bits)))
 
 -- ---- no rule: the words of the laws
 

@@ -5,26 +5,19 @@ ghost use Rattle.std.specs.Prelude.{◌≡◌};
 ghost use Rattle.address.specs.Master.{rank_of};
 ghost use Rattle.ranks.specs.Bits.{bit_of, with_rank, least_of};
 
-use address::Rank;
-
-// The master of the least rank, if there is one at all.
-#[derive(Clone, Copy)]
-pub enum Next {
-    Master(u8),
-    Nobody,
-}
-
 // Rank 0 has the lowest bit; an address without a rank has none.
+#[tactic(auto, using(address::proofs::Ranks::rank_below, crate::proofs::Digits::shifted))]
 fn bit_of(a: u8) -> u32
     ensures { result ≡ bit_of (rank_of a) }
 {
     match address::rank_of(a) {
-        Rank::Of(rank) => 1 << (rank as u32),
-        Rank::Nobody => 0,
+        Some(rank) => 1 << rank,
+        None => 0,
     }
 }
 
 // The bits and that of this master.
+#[tactic(auto, unfolding(crate::specs::Bits::with_rank))]
 pub fn with_rank(bits: u32, a: u8) -> u32
     ensures { result ≡ with_rank bits a }
 {
@@ -32,12 +25,13 @@ pub fn with_rank(bits: u32, a: u8) -> u32
 }
 
 // The least rank is the count of trailing zeros.
-pub fn least(bits: u32) -> Next
+#[tactic(auto, unfolding(crate::specs::Bits::least_of))]
+pub fn least(bits: u32) -> Option<u8>
     ensures { result ≡ least_of bits }
 {
     if bits == 0 {
-        Next::Nobody
+        None
     } else {
-        Next::Master(address::master_at(u32::trailing_zeros(bits)))
+        Some(address::master_at(bits.trailing_zeros()))
     }
 }

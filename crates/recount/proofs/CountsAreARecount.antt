@@ -13,7 +13,7 @@ use Rattle.station.specs.declared.phase.Sound.{Sound}
 use Rattle.station.specs.declared.station.Turn.{Turn}
 use Rattle.bus.specs.Attach.{newcomer}
 use Rattle.bus.specs.Bus.{powered_on}
-use Rattle.bus.specs.declared.bus.Answer.{Answer}
+use Rattle.bus.specs.Bus.{Answer}
 use Rattle.bus.specs.declared.bus.Bus.{Bus}
 use Rattle.promises.specs.Calls.{Call, attach, queue, reply, slot, heard, after_call, after_calls, ByteCall, ByteCalls, Reachable}
 use Rattle.promises.specs.Fit.{station_at}
@@ -26,13 +26,12 @@ use Rattle.pairs.specs.Ended.{ended_in, free_lines}
 use Rattle.pairs.specs.Hear as Hear
 use Rattle.pairs.specs.Hear.{heard_of}
 use Rattle.pairs.specs.Recount.{ends, among, recorded, answer_of}
-use Rattle.pairs.specs.Table.{count_in, ask_of, listened}
+use Rattle.pairs.specs.Table.{counts_after, count_in, ask_of, listened}
 use Rattle.pairs.specs.Tallied.{Tallied}
 use Rattle.pairs.specs.Total.{total, NoneStopped}
-use Rattle.pairs.specs.declared.Asked.TheVariants as asked
+use Rattle.std.specs.Prelude.{Option, Some, None, Err}
+use Rattle.pairs.specs.declared.AskError.TheVariants.{NoRecord}
 use Rattle.pairs.specs.declared.Counts.{Counts}
-use Rattle.pairs.specs.declared.Freed.{Freed}
-use Rattle.pairs.specs.declared.Freed.TheVariants.{Nothing, One}
 use Rattle.pairs.specs.declared.Heard.{Heard}
 use Rattle.pairs.specs.declared.Pair.{Pair}
 use Rattle.pairs.specs.declared.Transfer.{Transfer}
@@ -55,15 +54,15 @@ pub record Right (w : Beside) (l : Lines) : Type 0 where
 
 -- counted as it was heard
 module _ (t : List Pair) (c : Counts) (xs : List Transfer) (h : Tallied t c xs) where
-  counted_right : (x : Heard) → x.before ≡ c → Tallied (count_in t x).table (count_in t x).kept.counts (grown x.freed xs)
+  counted_right : (x : Heard) → x.before ≡ c → Tallied (count_in t x).table (counts_after (count_in t x).kept) (grown x.freed xs)
   counted_right x e =
       subst
-      (λ (d : Counts). Tallied (count_in t (Hear.heard d x.current x.freed)).table (count_in t (Hear.heard d x.current x.freed)).kept.counts (grown x.freed xs))
+      (λ (d : Counts). Tallied (count_in t (Hear.heard d x.current x.freed)).table (counts_after (count_in t (Hear.heard d x.current x.freed)).kept) (grown x.freed xs))
       (sym e) (go x.freed)
     where
-      go : (f : Freed) → Tallied (count_in t (Hear.heard c x.current f)).table (count_in t (Hear.heard c x.current f)).kept.counts (grown f xs)
-      go Nothing = none_more t c x.current xs h
-      go (One y) = one_more t c x.current xs y h
+      go : (f : Option Transfer) → Tallied (count_in t (Hear.heard c x.current f)).table (counts_after (count_in t (Hear.heard c x.current f)).kept) (grown f xs)
+      go None = none_more t c x.current xs h
+      go (Some y) = one_more t c x.current xs y h
 
 pub slot_right : {w : Beside} {l : Lines} {c : Call} {h : Sound} → Reachable (after_call w.bus c) → AllHear w.bus c h → Right w l
     → Right (listens w (after_call w.bus c)) (lines (lines_of (after_call w.bus c) l.since) l.earlier)
@@ -77,7 +76,7 @@ slot_right {w} {l} {c} reached hear r =
           subst (λ (u : UnderWay). Heeds after u (lines_of after l.since ++ l.earlier)) (sym (counted_current w.table (heard_of w.counts after).before (heard_of w.counts after).current r.tallied.whole (heard_of w.counts after).freed))
           g.heeds;
       tallied =
-          subst (λ (ys : List Transfer). Tallied (listened w.table w.counts after).table (listened w.table w.counts after).kept.counts ys) (sym g.ended)
+          subst (λ (ys : List Transfer). Tallied (listened w.table w.counts after).table (counts_after (listened w.table w.counts after).kept) ys) (sym g.ended)
           (counted_right w.table w.counts xs r.tallied (heard_of w.counts after) g.before);
     }
 
@@ -168,7 +167,7 @@ module _ (cs : List Call) (k : ByteCalls cs)
   pub answers_are_a_recount : (qq zz : ℕ) → ask_of at_end.table at_end.counts qq zz ≡ answer_of all_ended qq zz
   answers_are_a_recount qq zz = asked_is_recounted at_end.table at_end.counts qq zz all_ended counts_are_a_recount
 
-  pub no_record_exactly_when : (qq zz : ℕ) → (ask_of at_end.table at_end.counts qq zz ≡ asked.NoRecord) ↔ (among (ends qq zz) (recorded all_ended) ≡ false)
+  pub no_record_exactly_when : (qq zz : ℕ) → (ask_of at_end.table at_end.counts qq zz ≡ Err NoRecord) ↔ (among (ends qq zz) (recorded all_ended) ≡ false)
   no_record_exactly_when qq zz = refused_20 at_end.table at_end.counts qq zz all_ended counts_are_a_recount
 
   -- where no count has stopped, all counts together are the free lines since

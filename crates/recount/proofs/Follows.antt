@@ -8,8 +8,7 @@ use lib.Dec.{eqb}
 use Rattle.station.specs.Events.{Word, taken, answer, Event}
 use Rattle.pairs.specs.Ended.{is_owns, is_taken_line, is_answer, had_since, is_slave_address, got_through}
 use Rattle.pairs.specs.UnderWay.{under_way, nothing_known, wants_answer, is_owner, may_be_owner, begun, taken_by, answered_in, is_taken}
-use Rattle.pairs.specs.declared.Owner.{Owner}
-use Rattle.pairs.specs.declared.Owner.TheVariants.{Unknown, Known}
+use Rattle.std.specs.Prelude.{Option, Some, None}
 use Rattle.pairs.specs.declared.UnderWay.{UnderWay}
 use Rattle.pairs.proofs.SlaveAddresses.{slave_address}
 
@@ -45,15 +44,15 @@ module _ (such : Word → Bool) (a : ℕ) (e : Event) (back : List Event) where
 
 -- its owner is known, and whether that was told taken
 pub record Owned (a : ℕ) (u : UnderWay) (back : List Event) : Type 0 where
-  pub owner : u.owner ≡ Known a
+  pub owner : u.owner ≡ Some a
   pub told : u.told ≡ had_since is_taken_line a back
 
 -- where listening began within the transfer: the owner was not told taken since, and may be yet; or it was told before, and another
 -- station is told so of its answer
 pub data Knows (a : ℕ) (u : UnderWay) (back : List Event) : Bool → Type 0 where
   owned : {more : Bool} → Owned a u back → Knows a u back more
-  not_yet : {more : Bool} → u.owner ≡ Unknown → had_since is_taken_line a back ≡ false → Knows a u back more
-  too_late : {o : ℕ} → u.owner ≡ Known o → (o ≡ a → ⊥) → had_since is_taken_line a back ≡ false → Knows a u back false
+  not_yet : {more : Bool} → u.owner ≡ None → had_since is_taken_line a back ≡ false → Knows a u back more
+  too_late : {o : ℕ} → u.owner ≡ Some o → (o ≡ a → ⊥) → had_since is_taken_line a back ≡ false → Knows a u back false
 
 -- what is known of the transfer of a, which may yet (`more`) be told taken
 pub record Follows (a : ℕ) (more : Bool) (u : UnderWay) (back : List Event) : Type 0 where
@@ -82,19 +81,19 @@ from_nothing a more = record { answered = refl; knows = not_yet refl refl }
 
 -- a taken line of a station that can be no owner, or can be
 module _ (u : UnderWay) (s : ℕ) where
-  unmoved : (o : Owner) → u.owner ≡ o → may_be_owner o s ≡ false → taken_by u s ≡ u
+  unmoved : (o : Option ℕ) → u.owner ≡ o → may_be_owner o s ≡ false → taken_by u s ≡ u
   unfolding taken_by
-  unmoved o q n = ap (λ (t : Bool). cond t (under_way (Known s) true u.answered) u) (ap (λ (p : Owner). may_be_owner p s) q ∙ n)
+  unmoved o q n = ap (λ (t : Bool). cond t (under_way (Some s) true u.answered) u) (ap (λ (p : Option ℕ). may_be_owner p s) q ∙ n)
 
-  moved : (o : Owner) → u.owner ≡ o → may_be_owner o s ≡ true → taken_by u s ≡ under_way (Known s) true u.answered
+  moved : (o : Option ℕ) → u.owner ≡ o → may_be_owner o s ≡ true → taken_by u s ≡ under_way (Some s) true u.answered
   unfolding taken_by
-  moved o q n = ap (λ (t : Bool). cond t (under_way (Known s) true u.answered) u) (ap (λ (p : Owner). may_be_owner p s) q ∙ n)
+  moved o q n = ap (λ (t : Bool). cond t (under_way (Some s) true u.answered) u) (ap (λ (p : Option ℕ). may_be_owner p s) q ∙ n)
 
   same_answered : (taken_by u s).answered ≡ u.answered
   unfolding taken_by
   same_answered = go (may_be_owner u.owner s)
     where
-      go : (t : Bool) → (cond t (under_way (Known s) true u.answered) u).answered ≡ u.answered
+      go : (t : Bool) → (cond t (under_way (Some s) true u.answered) u).answered ≡ u.answered
       go true = refl
       go false = refl
 
@@ -103,7 +102,7 @@ pub own_owns : (e : Event) {a : ℕ} {back : List Event} → e.station ≡ a →
 own_owns e {a} {back} s o =
     record {
       answered = sym (had_begun is_answer a e back s o);
-      owner = record { owner = ap Known s; told = sym (had_begun is_taken_line a e back s o) };
+      owner = record { owner = ap Some s; told = sym (had_begun is_taken_line a e back s o) };
     }
 
 module _ (e : Event) {a : ℕ} {u : UnderWay} {back : List Event} where
@@ -130,7 +129,7 @@ module _ (e : Event) {a : ℕ} {u : UnderWay} {back : List Event} where
   -- another station's taken line says nothing of an owner that is known
   other_owned : (e.station ≡ a → ⊥) → Owned a u back → Owned a (taken_by u e.station) (e ∷ back)
   other_owned d w =
-      subst (λ (v : UnderWay). Owned a v (e ∷ back)) (sym (unmoved u e.station (Known a) w.owner (ne_eqb a e.station (λ q. d (sym q)))))
+      subst (λ (v : UnderWay). Owned a v (e ∷ back)) (sym (unmoved u e.station (Some a) w.owner (ne_eqb a e.station (λ q. d (sym q)))))
       (record { owner = w.owner; told = w.told ∙ sym (had_other is_taken_line a e back d) })
 
   pub other_taken_held : (e.station ≡ a → ⊥) → Held a u back → Held a (taken_by u e.station) (e ∷ back)
@@ -144,14 +143,14 @@ module _ (e : Event) {a : ℕ} {u : UnderWay} {back : List Event} where
       none : had_since is_taken_line a back ≡ false → had_since is_taken_line a (e ∷ back) ≡ false
       none y = had_other is_taken_line a e back d ∙ y
 
-      by_owner : {o : ℕ} → u.owner ≡ Known o → (o ≡ a → ⊥) → had_since is_taken_line a back ≡ false → (t : Bool) → eqb o e.station ≡ t
+      by_owner : {o : ℕ} → u.owner ≡ Some o → (o ≡ a → ⊥) → had_since is_taken_line a back ≡ false → (t : Bool) → eqb o e.station ≡ t
           → Knows a (taken_by u e.station) (e ∷ back) false
-      by_owner {o} x f y true q = subst (λ (v : UnderWay). Knows a v (e ∷ back) false) (sym (moved u e.station (Known o) x q)) (too_late refl d (none y))
-      by_owner {o} x f y false q = subst (λ (v : UnderWay). Knows a v (e ∷ back) false) (sym (unmoved u e.station (Known o) x q)) (too_late x f (none y))
+      by_owner {o} x f y true q = subst (λ (v : UnderWay). Knows a v (e ∷ back) false) (sym (moved u e.station (Some o) x q)) (too_late refl d (none y))
+      by_owner {o} x f y false q = subst (λ (v : UnderWay). Knows a v (e ∷ back) false) (sym (unmoved u e.station (Some o) x q)) (too_late x f (none y))
 
       go : Knows a u back false → Knows a (taken_by u e.station) (e ∷ back) false
       go (owned w) = owned (other_owned d w)
-      go (not_yet x y) = subst (λ (v : UnderWay). Knows a v (e ∷ back) false) (sym (moved u e.station Unknown x refl)) (too_late refl d (none y))
+      go (not_yet x y) = subst (λ (v : UnderWay). Knows a v (e ∷ back) false) (sym (moved u e.station None x refl)) (too_late refl d (none y))
       go (too_late {o = o} x f y) = by_owner x f y (eqb o e.station) refl
 
   -- the owner's own lines: taken, answer
@@ -162,14 +161,14 @@ module _ (e : Event) {a : ℕ} {u : UnderWay} {back : List Event} where
         knows = owned (go w.knows);
       }
     where
-      now : (o : Owner) → u.owner ≡ o → may_be_owner o e.station ≡ true → Owned a (taken_by u e.station) (e ∷ back)
+      now : (o : Option ℕ) → u.owner ≡ o → may_be_owner o e.station ≡ true → Owned a (taken_by u e.station) (e ∷ back)
       now o q m =
           subst (λ (v : UnderWay). Owned a v (e ∷ back)) (sym (moved u e.station o q m))
-          (record { owner = ap Known s; told = sym (had_now is_taken_line a e back s (ap is_owns t) (ap is_taken_line t)) })
+          (record { owner = ap Some s; told = sym (had_now is_taken_line a e back s (ap is_owns t) (ap is_taken_line t)) })
 
       go : Knows a u back true → Owned a (taken_by u e.station) (e ∷ back)
-      go (owned w) = now (Known a) w.owner (eq-eqb a e.station (sym s))
-      go (not_yet x y) = now Unknown x refl
+      go (owned w) = now (Some a) w.owner (eq-eqb a e.station (sym s))
+      go (not_yet x y) = now None x refl
 
   pub own_answer : {more : Bool} → e.station ≡ a → e.word ≡ answer → Follows a more u back → Follows a more (answered_in u) (e ∷ back)
   own_answer {more} s t w =
@@ -193,7 +192,7 @@ module _ {a : ℕ} {more : Bool} {u : UnderWay} {back : List Event} (zz : ℕ) (
   unfolding is_taken got_through
   counts_as = go w.knows
     where
-      untaken : (o : Owner) → u.owner ≡ o → is_owner o a ≡ false → had_since is_taken_line a back ≡ false
+      untaken : (o : Option ℕ) → u.owner ≡ o → is_owner o a ≡ false → had_since is_taken_line a back ≡ false
           → cond (is_owner u.owner a) (cond u.told (cond (wants_answer zz) u.answered true) false) false
           ≡ cond (had_since is_taken_line a back) (cond (is_slave_address zz) (had_since is_answer a back) true) false
       untaken o q n y = rw (q, n, y)
@@ -202,5 +201,5 @@ module _ {a : ℕ} {more : Bool} {u : UnderWay} {back : List Event} (zz : ℕ) (
           → cond (is_owner u.owner a) (cond u.told (cond (wants_answer zz) u.answered true) false) false
           ≡ cond (had_since is_taken_line a back) (cond (is_slave_address zz) (had_since is_answer a back) true) false
       go (owned x) = rw (x.owner, eq-eqb a a refl, x.told, by_answer)
-      go (not_yet q y) = untaken Unknown q refl y
-      go (too_late {o = o} q d y) = untaken (Known o) q (ne_eqb o a d) y
+      go (not_yet q y) = untaken None q refl y
+      go (too_late {o = o} q d y) = untaken (Some o) q (ne_eqb o a d) y

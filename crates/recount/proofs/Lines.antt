@@ -11,8 +11,7 @@ use Rattle.pairs.specs.Ended.{in_front, got_through, ended_at, ended_in}
 use Rattle.pairs.specs.Hear.{or_freed, ended_by, heard_events}
 use Rattle.pairs.specs.UnderWay.{begun, taken_by, answered_in, is_taken}
 use Rattle.pairs.specs.declared.Counts.{Counts}
-use Rattle.pairs.specs.declared.Freed.{Freed}
-use Rattle.pairs.specs.declared.Freed.TheVariants.{Nothing, One}
+use Rattle.std.specs.Prelude.{Option, Some, None}
 use Rattle.pairs.specs.declared.Heard.{Heard}
 use Rattle.pairs.specs.declared.Transfer.{Transfer}
 use Rattle.pairs.specs.declared.UnderWay.{UnderWay}
@@ -27,7 +26,7 @@ module _ (c : Counts) (earlier : List Event) (xs : List Transfer) where
   -- none has ended in it
   pub record Under (P : Known) (h : Heard) (since : List Event) : Type 0 where
     pub before : h.before ≡ c
-    pub freed : h.freed ≡ Nothing
+    pub freed : h.freed ≡ None
     pub ended : ended_in since earlier ≡ xs
     pub now : P h.current (since ++ earlier)
 
@@ -35,7 +34,7 @@ module _ (c : Counts) (earlier : List Event) (xs : List Transfer) where
   pub record Over (h : Heard) (since : List Event) : Type 0 where
     pub before : h.before ≡ c
     pub transfer : Transfer
-    pub freed : h.freed ≡ One transfer
+    pub freed : h.freed ≡ Some transfer
     pub ended : ended_in since earlier ≡ transfer ∷ xs
 
   -- ---- lines that end none
@@ -76,8 +75,8 @@ module _ (c : Counts) (earlier : List Event) (xs : List Transfer) where
           before = w.before;
           transfer = ended_at (free_event a t) (since ++ earlier);
           freed =
-              ap (λ (r : Freed). or_freed r (record { qq = t.qq; zz = t.zz; taken = is_taken h.current a t.zz })) w.freed
-              ∙ ap (λ (k : Bool). One (record { qq = t.qq; zz = t.zz; taken = k })) (f h.current (since ++ earlier) w.now);
+              ap (λ (r : Option Transfer). or_freed r (record { qq = t.qq; zz = t.zz; taken = is_taken h.current a t.zz })) w.freed
+              ∙ ap (λ (k : Bool). Some (record { qq = t.qq; zz = t.zz; taken = k })) (f h.current (since ++ earlier) w.now);
           ended = ap (λ (ys : List Transfer). ended_at (free_event a t) (since ++ earlier) ∷ ys) w.ended;
         };
       }

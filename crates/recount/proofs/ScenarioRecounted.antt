@@ -17,9 +17,10 @@ use Rattle.bus.proofs.EventsTold.{told_exactly_when}
 use Rattle.walk.specs.Apply.{bytes_from, applied}
 use Rattle.walk.specs.Field.{Bytes, field_at}
 use Rattle.walk.specs.Follow.{told_at, told_buses, heard_slots}
-use Rattle.walk.specs.Moments.{Now, now, Gone, told_in, ran, gone_as, moments_from, moments}
+use Rattle.walk.specs.Moments.{Now, now, Gone, told_in, ran, gone_by, moments_from, moments}
+use Rattle.std.specs.Prelude.{Option, Some, None}
 use Rattle.walk.specs.declared.field.Field.{Field}
-use Rattle.walk.specs.declared.field.Field.TheVariants.{Master, Slave, Reply, Queue, Run, Heard, Quiet, Bad}
+use Rattle.walk.specs.declared.field.Field.TheVariants.{Master, Slave, Reply, Queue, Run, Heard, Quiet}
 use Rattle.walk.specs.declared.walk.Moment.{Moment}
 use Rattle.walk.specs.declared.walk.Moment.TheVariants.{Called, Told, Passed, Ended}
 use Rattle.promises.specs.Calls.{Call, slot, after_call, Reachable}
@@ -127,21 +128,21 @@ ran_right (suc n) {b} {k} {since} r =
 -- ---- fields
 
 -- a call tells nobody anything
-gone_right : (f : Field) (s : List ℕ) (to : ℕ) {b : Bus} {k : Book} {since : List Event} → On (gone_as f (applied b f s to)) → RightBook b k since
-    → RightAfter (gone_as f (applied b f s to)).bus k since (told_buses (gone_as f (applied b f s to)).moments)
+gone_right : (f : Option Field) (s : List ℕ) (to : ℕ) {b : Bus} {k : Book} {since : List Event} → On (gone_by f b s to) → RightBook b k since
+    → RightAfter (gone_by f b s to).bus k since (told_buses (gone_by f b s to).moments)
 unfolding applied done told_buses heard_slots lines_from
-gone_right (Master a) s to {b} w r = answer_right (did_attach b a true) w.bus r
-gone_right (Slave a) s to {b} w r = answer_right (did_attach b a false) w.bus r
-gone_right (Reply a p q from) s to {b} w r = answer_right (did_reply b a p q (bytes_from s from to)) w.bus r
-gone_right (Queue q z p t from) s to {b} w r = answer_right (did_queue b q z p t (bytes_from s from to)) w.bus r
-gone_right (Run n) s to w r = ran_right n r
-gone_right (Heard x) s to w r = told_right disturbed w.bus r
-gone_right Quiet s to w r = told_right disturbed w.bus r
-gone_right Bad s to w r = r
+gone_right (Some (Master a)) s to {b} w r = answer_right (did_attach b a true) w.bus r
+gone_right (Some (Slave a)) s to {b} w r = answer_right (did_attach b a false) w.bus r
+gone_right (Some (Reply a p q from)) s to {b} w r = answer_right (did_reply b a p q (bytes_from s from to)) w.bus r
+gone_right (Some (Queue q z p t from)) s to {b} w r = answer_right (did_queue b q z p t (bytes_from s from to)) w.bus r
+gone_right (Some (Run n)) s to w r = ran_right n r
+gone_right (Some (Heard x)) s to w r = told_right disturbed w.bus r
+gone_right (Some Quiet) s to w r = told_right disturbed w.bus r
+gone_right None s to w r = r
 
 -- what the field at a place comes to
-abbrev gone_by : List ℕ → ℕ → Bus → Gone
-gone_by s at b = gone_as (field_at s at).field (applied b (field_at s at).field s (field_at s at).next)
+abbrev gone_at : List ℕ → ℕ → Bus → Gone
+gone_at s at b = gone_by (field_at s at).field b s (field_at s at).next
 
 -- all fields, one after the other
 fields_right : (n : ℕ) (s : List ℕ) → Bytes s → (at : ℕ) {b : Bus} {k : Book} {since : List Event} → RightBook b k since
@@ -154,12 +155,12 @@ fields_right (suc n) s bytes at {b} {k} {since} r =
     (gone_right (field_at s at).field s (field_at s at).next
     (gone_reached (field_at s at).field s b (field_at s at).next bytes (field_bytes s at bytes) r.reached) r))
   where
-    go : (t : Bool) → ((e : Bus) × RightAfter e (heard_slots counted_in k (told_buses (gone_by s at b).moments)) (lines_from (told_buses (gone_by s at b).moments) since) (told_buses (moments_from n s (field_at s at).next (gone_by s at b).bus)))
-        → (e : Bus) × RightAfter e k since (told_buses (cond t ((gone_by s at b).moments ++ (now Passed (gone_by s at b).bus ∷ (moments_from n s (field_at s at).next (gone_by s at b).bus))) (now Ended b ∷ [])))
+    go : (t : Bool) → ((e : Bus) × RightAfter e (heard_slots counted_in k (told_buses (gone_at s at b).moments)) (lines_from (told_buses (gone_at s at b).moments) since) (told_buses (moments_from n s (field_at s at).next (gone_at s at b).bus)))
+        → (e : Bus) × RightAfter e k since (told_buses (cond t ((gone_at s at b).moments ++ (now Passed (gone_at s at b).bus ∷ (moments_from n s (field_at s at).next (gone_at s at b).bus))) (now Ended b ∷ [])))
     go true (e, w) = (
       e,
-      subst (λ (bs : List Bus). RightAfter e k since bs) (sym (told_append (gone_by s at b).moments (now Passed (gone_by s at b).bus ∷ (moments_from n s (field_at s at).next (gone_by s at b).bus))))
-          (right_more k since (told_buses (gone_by s at b).moments) (told_buses (moments_from n s (field_at s at).next (gone_by s at b).bus)) w),
+      subst (λ (bs : List Bus). RightAfter e k since bs) (sym (told_append (gone_at s at b).moments (now Passed (gone_at s at b).bus ∷ (moments_from n s (field_at s at).next (gone_at s at b).bus))))
+          (right_more k since (told_buses (gone_at s at b).moments) (told_buses (moments_from n s (field_at s at).next (gone_at s at b).bus)) w),
     )
     go false w = (b, r)
 
@@ -173,5 +174,5 @@ unfolding moments
 moments_recounted s bytes = (fields_right (length s) s bytes 0 unused_right).1.tallied
 
 -- what `counts` is handed to write, whatever is asked of whatever scenario, is its defined output
-pub counts_writes : (q : Question) (s buffer : List ℕ) → Bytes s → length buffer ≡ room → Writes q s buffer (counts_output q s)
+pub counts_writes : (q : Option Question) (s buffer : List ℕ) → Bytes s → length buffer ≡ room → Writes q s buffer (counts_output q s)
 counts_writes q s buffer bytes whole = counts_prints q s buffer bytes whole (λ e. moments_recounted s bytes)

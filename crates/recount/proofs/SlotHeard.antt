@@ -40,8 +40,7 @@ use Rattle.pairs.specs.UnderWay.{is_taken}
 use Rattle.pairs.specs.Hear as Hear
 use Rattle.pairs.specs.Hear.{heard_of, events_in}
 use Rattle.pairs.specs.declared.Counts.{Counts}
-use Rattle.pairs.specs.declared.Freed.{Freed}
-use Rattle.pairs.specs.declared.Freed.TheVariants.{Nothing, One}
+use Rattle.std.specs.Prelude.{Option, Some, None}
 use Rattle.pairs.specs.declared.Transfer.{Transfer}
 use Rattle.pairs.specs.declared.UnderWay.{UnderWay}
 use Rattle.recount.specs.Listening.{lines_of}
@@ -57,9 +56,9 @@ Heeds b u back =
     (i : ℕ) → i < attached_to b → owner (station_at b i).phase ≡ true → Follows (station_at b i).address (may_yet (station_at b i).phase) u back
 
 -- one transfer more, where one has ended
-abbrev pub grown : Freed → List Transfer → List Transfer
-grown Nothing xs = xs
-grown (One x) xs = x ∷ xs
+abbrev pub grown : Option Transfer → List Transfer → List Transfer
+grown None xs = xs
+grown (Some x) xs = x ∷ xs
 
 -- what a slot should make of it
 pub record RightlyHeard (after : Bus) (c : Counts) (since earlier : List Event) (xs : List Transfer) : Type 0 where
@@ -173,24 +172,24 @@ module _ {b : Bus} {call : Call} {h : Sound} (r : Reachable b) (hear : AllHear b
 
   module _ (c : Counts) (since earlier : List Event) (xs : List Transfer) (done : ended_in since earlier ≡ xs) where
     -- as listening begins
-    starts : {P : Known} → P c.current (since ++ earlier) → Under c earlier xs P (Hear.heard c c.current Nothing) since
+    starts : {P : Known} → P c.current (since ++ earlier) → Under c earlier xs P (Hear.heard c c.current None) since
     starts p = record { before = refl; freed = refl; ended = done; now = p }
 
     under : {P Q : Known} → Goes (Under c earlier xs P) (Under c earlier xs Q) (events_in (events after)) → P c.current (since ++ earlier)
         → Under c earlier xs Q (heard_of c after) (lines_of after since)
     unfolding heard_of
-    under g p = g.leads (Hear.heard c c.current Nothing) since (starts p)
+    under g p = g.leads (Hear.heard c c.current None) since (starts p)
 
     over : {P : Known} → Goes (Under c earlier xs P) (Over c earlier xs) (events_in (events after)) → P c.current (since ++ earlier)
         → Over c earlier xs (heard_of c after) (lines_of after since)
     unfolding heard_of
-    over g p = g.leads (Hear.heard c c.current Nothing) since (starts p)
+    over g p = g.leads (Hear.heard c c.current None) since (starts p)
 
     none_ended : {P : Known} → Under c earlier xs P (heard_of c after) (lines_of after since) → ended_in (lines_of after since) earlier ≡ grown (heard_of c after).freed xs
-    none_ended w = w.ended ∙ ap (λ (f : Freed). grown f xs) (sym w.freed)
+    none_ended w = w.ended ∙ ap (λ (f : Option Transfer). grown f xs) (sym w.freed)
 
     one_ended : Over c earlier xs (heard_of c after) (lines_of after since) → ended_in (lines_of after since) earlier ≡ grown (heard_of c after).freed xs
-    one_ended w = w.ended ∙ ap (λ (f : Freed). grown f xs) (sym w.freed)
+    one_ended w = w.ended ∙ ap (λ (f : Option Transfer). grown f xs) (sym w.freed)
 
     module _ (i : ℕ) (l : i < attached_to b) (own : owner (station_at b i).phase ≡ true)
         (knew : Follows (station_at b i).address (may_yet (station_at b i).phase) c.current (since ++ earlier)) where

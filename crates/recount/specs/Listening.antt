@@ -7,7 +7,7 @@ use Rattle.promises.specs.Calls.{Call, attach, queue, reply, slot, heard, after_
 use Rattle.pairs.specs.Counts.{fresh, cleared}
 use Rattle.pairs.specs.Ended.{in_front, ended_in}
 use Rattle.pairs.specs.Hear.{events_in}
-use Rattle.pairs.specs.Table.{Counting, listened}
+use Rattle.pairs.specs.Table.{Counting, counts_after, listened}
 use Rattle.pairs.specs.declared.Counts.{Counts}
 use Rattle.pairs.specs.declared.Pair.{Pair}
 use Rattle.pairs.specs.declared.Transfer.{Transfer}
@@ -27,7 +27,7 @@ abbrev pub beside : Bus → List Pair → Counts → Beside
 beside b t c = record { bus = b; table = t; counts = c }
 
 abbrev pub counted : Bus → Counting → Beside
-counted b k = beside b k.table k.kept.counts
+counted b k = beside b k.table (counts_after k.kept)
 
 -- what the slot told is counted
 abbrev pub listens : Beside → Bus → Beside

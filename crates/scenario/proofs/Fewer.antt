@@ -8,25 +8,22 @@ use lib.Dec.{leb}
 use Rattle.bus.specs.declared.bus.Bus.{Bus}
 use Rattle.walk.specs.Field.{Bytes}
 use Rattle.walk.specs.Walk.{is_end, to_go, walked}
-use Rattle.walk.specs.declared.form.Form.{Form}
-use Rattle.walk.specs.declared.form.Form.TheVariants.{Good, BadField, TooLong}
+use Rattle.std.specs.Prelude.{Result, ⊤, Ok, Err}
+use Rattle.walk.specs.declared.form.FormError.{FormError}
+use Rattle.walk.specs.declared.form.FormError.TheVariants.{BadField, TooLong}
 use Rattle.walk.specs.declared.walk.Place.{Place}
-use Rattle.walk.specs.declared.walk.Step.{Step}
+use Rattle.walk.specs.Walk.{Step}
 use Rattle.walk.proofs.Going.{walked_nearer}
 use Rattle.scenario.specs.declared.fill.Stage.{Stage}
 use Rattle.scenario.specs.declared.fill.Stage.TheVariants.{Opening, Fields, Done}
 use Rattle.scenario.specs.declared.fill.Printing.{Printing}
 use Rattle.scenario.specs.Fill.{moment_text, opening_text, printed, is_done, filling, filled_from, filled_as, opened, filled}
-use Rattle.scenario.specs.Pen.{Pen, pen, penned, room, page_room}
-
--- no more fills than this are to come
-abbrev fills_as : Stage → ℕ → ℕ
-fills_as (Opening f) k = k + 2
-fills_as Fields k = k + 1
-fills_as Done k = 0
+use Rattle.scenario.specs.Series.{fills_as, fills_to_come}
+use Rattle.scenario.specs.declared.pen.Pen.{Pen}
+use Rattle.scenario.specs.Pen.{pen, penned, room, page_room}
 
 abbrev pub fills_left : Printing → List ℕ → ℕ
-fills_left g s = fills_as g.stage (to_go g.place s)
+fills_left g s = fills_to_come s g
 
 at_most : (k : ℕ) (b : Bus) (p : Place) (s : List ℕ) (q : Pen) → Bytes s → fills_left (filled_from k b p s q).printing s ≤ to_go p s + 1
 unfolding filled_from
@@ -65,10 +62,10 @@ pub fewer : (g : Printing) (s buffer : List ℕ) → Bytes s → is_done g.stage
 unfolding filled penned
 fewer g s buffer bytes d = go g.stage d
   where
-    opening : (f : Form) (q : Pen) → fills_left (filled_as (opened (Opening f)) g.place g.bus s q).printing s < to_go g.place s + 2
-    opening Good q = omega (arith, at_most (suc (to_go g.place s)) g.bus g.place s q bytes)
-    opening (BadField at) q = omega arith
-    opening TooLong q = omega arith
+    opening : (f : Result ⊤ FormError) (q : Pen) → fills_left (filled_as (opened (Opening f)) g.place g.bus s q).printing s < to_go g.place s + 2
+    opening (Ok tt) q = omega (arith, at_most (suc (to_go g.place s)) g.bus g.place s q bytes)
+    opening (Err (BadField at)) q = omega arith
+    opening (Err TooLong) q = omega arith
 
     go : (t : Stage) → is_done t ≡ false
         → fills_left (filled_as (opened t) g.place g.bus s (penned (pen buffer 0) (opening_text t))).printing s < fills_as t (to_go g.place s)

@@ -13,13 +13,14 @@ use Rattle.walk.specs.Walk.{came_to, stepped, came, next, is_end, passed_by, to_
 use Rattle.walk.specs.declared.walk.Moment.{Moment}
 use Rattle.walk.specs.declared.walk.Moment.TheVariants.{Called, Told, Passed, Ended}
 use Rattle.walk.specs.declared.walk.Place.{Place}
-use Rattle.walk.specs.declared.walk.Step.{Step}
+use Rattle.walk.specs.Walk.{Step}
 use Rattle.walk.proofs.Going.{goes_first, goes_here, walked_nearer, walked_on}
 use Rattle.walk.proofs.Nearer.{nearer}
 use Rattle.scenario.specs.declared.fill.Stage.TheVariants.{Fields, Done}
 use Rattle.scenario.specs.Fill.{Fill, filling, printed, moment_text, filled_from, fields_filled}
 use Rattle.scenario.specs.Lines.{slot_text}
-use Rattle.scenario.specs.Pen.{Pen, penned, room, page_room}
+use Rattle.scenario.specs.declared.pen.Pen.{Pen}
+use Rattle.scenario.specs.Pen.{penned, room, page_room}
 use Rattle.scenario.proofs.OfMoments.{quiet_text}
 use Rattle.scenario.proofs.Written.{nothing}
 

@@ -15,8 +15,9 @@ use Rattle.walk.specs.Field.{Bytes}
 use Rattle.walk.specs.Form.{form_of}
 use Rattle.walk.specs.Moments.{Now, moments, is_passed, without_ends, Gives, last, one}
 use Rattle.walk.specs.Walk.{before, to_go}
-use Rattle.walk.specs.declared.form.Form.{Form}
-use Rattle.walk.specs.declared.form.Form.TheVariants.{Good, BadField, TooLong}
+use Rattle.std.specs.Prelude.{Result, ⊤, Ok, Err}
+use Rattle.walk.specs.declared.form.FormError.{FormError}
+use Rattle.walk.specs.declared.form.FormError.TheVariants.{BadField, TooLong}
 use Rattle.walk.specs.declared.walk.Place.{Place}
 use Rattle.walk.proofs.Given.{walk_gives_others}
 use Rattle.walk.proofs.Going.{walked_nearer}
@@ -25,7 +26,8 @@ use Rattle.scenario.specs.declared.fill.Printing.{Printing}
 use Rattle.scenario.specs.Fill.{moment_text, moments_text, printed, started, is_done, Fill, filling, filled_from, filled, Prints, finished, after}
 use Rattle.scenario.specs.Lines.{form_text}
 use Rattle.scenario.specs.Output.{header, output}
-use Rattle.scenario.specs.Pen.{Pen, pen, penned, room, page_room}
+use Rattle.scenario.specs.declared.pen.Pen.{Pen}
+use Rattle.scenario.specs.Pen.{pen, penned, room, page_room}
 use Rattle.scenario.proofs.Fits.{written_whole, opening_most}
 use Rattle.scenario.proofs.OfMoments.{output_of_moments, without_text}
 use Rattle.scenario.proofs.Written.{penned_append}
@@ -148,29 +150,29 @@ without_on_page (next {a = n} {l = l} f fs) = go (is_passed n.moment) (without_o
     go false ws = next f ws
 
 -- the first fill has the header, and of a bad form its line and nothing else
-opens : (s buffer : List ℕ) → Bytes s → length buffer ≡ room → (f : Form) → (f ≡ Good → Every OnPage (moments s)) → form_of s ≡ f
+opens : (s buffer : List ℕ) → Bytes s → length buffer ≡ room → (f : Result ⊤ FormError) → (f ≡ Ok tt → Every OnPage (moments s)) → form_of s ≡ f
     → Printed s (printed (Opening f) (before 0) powered_on) buffer (output s)
 unfolding filled output
-opens s buffer bytes whole Good fs e =
+opens s buffer bytes whole (Ok tt) fs e =
     let w = walk_gives_others s bytes e in
     let x : header ++ moments_text (without_ends (moments s)) ≡ output s =
     ap (λ (v : List ℕ). header ++ v) (without_text (moments s)) ∙ sym (output_of_moments s e) in
-    subst (λ (v : List ℕ). Printed s (printed (Opening Good) (before 0) powered_on) buffer v) x
-    (one_fill s buffer (printed (Opening Good) (before 0) powered_on) (length (header ++ moments_text (without_ends (moments s)))) whole refl refl
+    subst (λ (v : List ℕ). Printed s (printed (Opening (Ok tt)) (before 0) powered_on) buffer v) x
+    (one_fill s buffer (printed (Opening (Ok tt)) (before 0) powered_on) (length (header ++ moments_text (without_ends (moments s)))) whole refl refl
     (fills_from s buffer bytes whole (suc (to_go (before 0) s)) w header (without_on_page (fs refl)) (omega arith) (omega arith))
     (omega arith) (fields_print s bytes (length (header ++ moments_text (without_ends (moments s))))))
-opens s buffer bytes whole (BadField at) fs e =
+opens s buffer bytes whole (Err (BadField at)) fs e =
     rw e
-    (one_fill s buffer (printed (Opening (BadField at)) (before 0) powered_on) (length (header ++ form_text (BadField at))) whole refl refl
-    (all {p = before 0} {b = powered_on} (header ++ form_text (BadField at)) (omega (arith, opening_most (BadField at))) refl) (omega arith)
-    (fields_print s bytes (length (header ++ form_text (BadField at)))))
-opens s buffer bytes whole TooLong fs e =
+    (one_fill s buffer (printed (Opening (Err (BadField at))) (before 0) powered_on) (length (header ++ form_text (Err (BadField at)))) whole refl refl
+    (all {p = before 0} {b = powered_on} (header ++ form_text (Err (BadField at))) (omega (arith, opening_most (Err (BadField at)))) refl) (omega arith)
+    (fields_print s bytes (length (header ++ form_text (Err (BadField at))))))
+opens s buffer bytes whole (Err TooLong) fs e =
     rw e
-    (one_fill s buffer (printed (Opening TooLong) (before 0) powered_on) (length (header ++ form_text TooLong)) whole refl refl
-    (all {p = before 0} {b = powered_on} (header ++ form_text TooLong) (omega (arith, opening_most TooLong)) refl) (omega arith)
-    (fields_print s bytes (length (header ++ form_text TooLong))))
+    (one_fill s buffer (printed (Opening (Err TooLong)) (before 0) powered_on) (length (header ++ form_text (Err TooLong))) whole refl refl
+    (all {p = before 0} {b = powered_on} (header ++ form_text (Err TooLong)) (omega (arith, opening_most (Err TooLong))) refl) (omega arith)
+    (fields_print s bytes (length (header ++ form_text (Err TooLong)))))
 
 -- for every input whose slots' lines each fit a page
-pub fills_print : (s buffer : List ℕ) → Bytes s → length buffer ≡ room → (form_of s ≡ Good → Every OnPage (moments s)) → Printed s (started s) buffer (output s)
+pub fills_print : (s buffer : List ℕ) → Bytes s → length buffer ≡ room → (form_of s ≡ Ok tt → Every OnPage (moments s)) → Printed s (started s) buffer (output s)
 unfolding started
 fills_print s buffer bytes whole fs = opens s buffer bytes whole (form_of s) fs refl

@@ -21,12 +21,14 @@ use Rattle.bus.specs.Time.{time_of}
 use Rattle.bus.specs.declared.time.Time.{Time}
 use Rattle.bus.specs.Refusal.{refusal_number}
 use Rattle.bus.specs.declared.bus.Bus.{Bus}
-use Rattle.bus.specs.declared.refusal.Verdict.{Verdict}
-use Rattle.bus.specs.declared.refusal.Verdict.TheVariants.{Done, Refused}
+use Rattle.std.specs.Prelude.{Result, Ok, Err, ⊤}
+use Rattle.bus.specs.declared.refusal.Refusal.{Refusal}
 use Rattle.bus.proofs.Loops.{attached_fit}
-use Rattle.walk.specs.declared.form.Form.{Form}
-use Rattle.walk.specs.declared.form.Form.TheVariants.{Good, BadField, TooLong}
-use Rattle.scenario.specs.Pen.{Pen, pen, page_room, room, penned_one, penned, hex_text, last_digit, digits_of, decimal_text}
+use Rattle.std.specs.Prelude.{Result, ⊤, Ok, Err}
+use Rattle.walk.specs.declared.form.FormError.{FormError}
+use Rattle.walk.specs.declared.form.FormError.TheVariants.{BadField, TooLong}
+use Rattle.scenario.specs.declared.pen.Pen.{Pen}
+use Rattle.scenario.specs.Pen.{pen, page_room, room, penned_one, penned, hex_text, last_digit, digits_of, decimal_text}
 use Rattle.scenario.specs.Lines.{word_text, values_text, newline, refused_text, hexes_text, begin_text, line_text, text_of, text_at, slot_text, verdict_text, form_text, end_text}
 use Rattle.scenario.specs.Output.{header}
 use Rattle.scenario.proofs.Texts.{text_append}
@@ -180,9 +182,9 @@ slot_most b h =
 
 -- ---- the other lines
 
-pub verdict_most : (v : Verdict) → length (verdict_text v) ≤ page_room
-verdict_most Done = omega arith
-verdict_most (Refused r) =
+pub verdict_most : (v : Result ⊤ Refusal) → length (verdict_text v) ≤ page_room
+verdict_most (Ok tt) = omega arith
+verdict_most (Err r) =
     let d = decimal_text (refusal_number r) in
     omega (arith, length-append (refused_text ++ d) newline, length-append refused_text d, decimal_most (refusal_number r))
 
@@ -200,12 +202,12 @@ refused_most m n =
       decimal_most n,
     )
 
-pub form_most : (f : Form) → length (form_text f) ≤ 40
-form_most Good = omega arith
-form_most (BadField at) = refused_most 14 at
-form_most TooLong = refused_most 15 65536
+pub form_most : (f : Result ⊤ FormError) → length (form_text f) ≤ 40
+form_most (Ok tt) = omega arith
+form_most (Err (BadField at)) = refused_most 14 at
+form_most (Err TooLong) = refused_most 15 65536
 
-pub opening_most : (f : Form) → length (header ++ form_text f) ≤ page_room
+pub opening_most : (f : Result ⊤ FormError) → length (header ++ form_text f) ≤ page_room
 opening_most f = omega (arith, length-append header (form_text f), form_most f)
 
 pub end_most : (slot : ℕ) → length (end_text slot) ≤ page_room

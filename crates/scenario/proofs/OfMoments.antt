@@ -10,22 +10,23 @@ use Rattle.bus.specs.Bus.{powered_on}
 use Rattle.bus.specs.Find.{there_is}
 use Rattle.bus.specs.Slot.{slot_run}
 use Rattle.bus.specs.declared.bus.Bus.{Bus}
-use Rattle.bus.specs.declared.bus.Answer.{Answer}
+use Rattle.bus.specs.Bus.{Answer}
 use Rattle.bus.specs.declared.find.Query.TheVariants.{WasTold}
 use Rattle.bus.proofs.EventsTold.{told_exactly_when}
 use Rattle.walk.specs.Apply.{applied}
 use Rattle.walk.specs.Field.{field_at}
 use Rattle.walk.specs.Form.{form_of}
 use Rattle.walk.specs.Moments as walk
-use Rattle.walk.specs.Moments.{Now, now, Gone, told_in, gone_as, moments_from, moments, is_passed, without_ends}
+use Rattle.walk.specs.Moments.{Now, now, Gone, told_in, gone_as, gone_by, moments_from, moments, is_passed, without_ends}
+use Rattle.std.specs.Prelude.{Option, Some, None}
 use Rattle.walk.specs.declared.field.Field.{Field}
-use Rattle.walk.specs.declared.field.Field.TheVariants.{Master, Slave, Reply, Queue, Run, Heard, Quiet, Bad}
-use Rattle.walk.specs.declared.form.Form.TheVariants.{Good}
+use Rattle.walk.specs.declared.field.Field.TheVariants.{Master, Slave, Reply, Queue, Run, Heard, Quiet}
+use Rattle.std.specs.Prelude.{Ok}
 use Rattle.walk.specs.declared.walk.Moment.{Moment}
 use Rattle.walk.specs.declared.walk.Moment.TheVariants.{Called, Told, Passed, Ended}
 use Rattle.scenario.specs.Fill.{moment_text, moments_text}
 use Rattle.scenario.specs.Lines.{slot_text, text_of, end_text}
-use Rattle.scenario.specs.Output.{Printed, ran, printed_as, printed_from, header, output}
+use Rattle.scenario.specs.Output.{Printed, ran, printed_as, printed_of, printed_from, header, output}
 
 texts_append : (l m : List Now) → moments_text (l ++ m) ≡ moments_text l ++ moments_text m
 unfolding moments_text
@@ -66,32 +67,36 @@ field_text (Queue q z p s f) r = simp append-nil
 field_text (Run n) r = ran_text n r.bus
 field_text (Heard x) r = simp (told_text r.bus [], append-nil)
 field_text Quiet r = simp (told_text r.bus [], append-nil)
-field_text Bad r = refl
+
+placed_text : (f : Option Field) (b : Bus) (s : List ℕ) (to : ℕ) → printed_of f b s to ≡ printed_by (gone_by f b s to)
+unfolding moments_text
+placed_text (Some f) b s to = field_text f (applied b f s to)
+placed_text None b s to = refl
 
 from_text : (k : ℕ) (s : List ℕ) (at : ℕ) (b : Bus) → printed_from k s at b ≡ moments_text (moments_from k s at b)
 unfolding printed_from moments_from moments_text
 from_text zero s at b = simp append-nil
 from_text (suc k) s at b =
-    go (ltb at (length s)) (field_text f (applied b f s to)) (from_text k s to (gone_as f (applied b f s to)).bus)
+    go (ltb at (length s)) (placed_text f b s to) (from_text k s to (gone_by f b s to).bus)
   where
-    f : Field
+    f : Option Field
     f = (field_at s at).field
 
     to : ℕ
     to = (field_at s at).next
 
     gone : Gone
-    gone = gone_as f (applied b f s to)
+    gone = gone_by f b s to
 
-    go : (t : Bool) → printed_as f (applied b f s to) ≡ printed_by gone
+    go : (t : Bool) → printed_of f b s to ≡ printed_by gone
         → printed_from k s to gone.bus ≡ moments_text (moments_from k s to gone.bus)
-        → cond t ((printed_as f (applied b f s to)).text ++ printed_from k s to (printed_as f (applied b f s to)).bus) (end_text b.slot)
+        → cond t ((printed_of f b s to).text ++ printed_from k s to (printed_of f b s to).bus) (end_text b.slot)
         ≡ moments_text (cond t (gone.moments ++ (now Passed gone.bus ∷ moments_from k s to gone.bus)) (now Ended b ∷ []))
     go true e h = rw (e, h, texts_append gone.moments (now Passed gone.bus ∷ moments_from k s to gone.bus))
     go false e h = simp append-nil
 
 -- of a scenario of good form
-pub output_of_moments : (s : List ℕ) → form_of s ≡ Good → output s ≡ header ++ moments_text (moments s)
+pub output_of_moments : (s : List ℕ) → form_of s ≡ Ok tt → output s ≡ header ++ moments_text (moments s)
 unfolding output moments
 output_of_moments s g = rw g (ap (λ (v : List ℕ). header ++ v) (from_text (length s) s 0 powered_on))
 

@@ -2,8 +2,8 @@
 use mathlib.Core.Path.{◌≡◌, refl, sym, ap, ◌∙◌}
 use mathlib.Core.Bool.{Bool, true, false}
 use mathlib.Core.List.{List, [], ◌∷◌, ◌++◌, append_assoc, append-nil}
-use Prim.Native.Nat.{ℕ, ◌+◌, ◌≤◌, ◌<◌}
-use lib.ListN.{length, get_or, take, drop}
+use Prim.Native.Nat.{ℕ}
+use lib.ListN.{length, take}
 use Rattle.wire.specs.Form.{bytes_of}
 use Rattle.wire.specs.declared.part.Telegram.{Telegram}
 use Rattle.wire.proofs.Filling.{counted_length}
@@ -22,7 +22,6 @@ use Rattle.bus.specs.declared.time.Time.{Time}
 use Rattle.bus.proofs.Elapsed.{free_inside}
 use Rattle.scenario.specs.Pen.{hex_text}
 use Rattle.scenario.specs.Lines.{word_text, hexes_text, line_text, text_of, plain_text, counted_text, load_text, given_text, answer_text, slot_text, text_at, pass_text}
-use Rattle.scenario.proofs.Written.{left_of_first}
 
 -- the lines of some events, and behind them those of others
 pub text_append : (time : Time) (es fs : List Event) → text_at time (es ++ fs) ≡ text_at time es ++ text_at time fs
@@ -67,19 +66,23 @@ answer_text_lem time a t h = simp (counted_length t.load h, append-nil, append_a
 
 -- ---- in a loop
 
--- one byte of the first n
-pub hexes_next : (l : List ℕ) (n i : ℕ) → n ≤ length l → i < n
-    → hexes_text (drop i (take n l)) ≡ hex_text (get_or l i 0) ++ hexes_text (drop (i + 1) (take n l))
+-- one byte more
+pub hexes_snoc : (bs : List ℕ) (b : ℕ) → hexes_text (bs ++ (b ∷ [])) ≡ hexes_text bs ++ hex_text b
 unfolding hexes_text
-hexes_next l n i f h = ap (λ (v : List ℕ). hexes_text v) (left_of_first l n i 0 f h)
+hexes_snoc [] b = append-nil _
+hexes_snoc (c ∷ bs) b = ap (λ (v : List ℕ). hex_text c ++ v) (hexes_snoc bs b) ∙ sym (append_assoc (hex_text c) (hexes_text bs) (hex_text b))
 
--- one station of the first n
-pub pass_next : (time : Time) (last : Bool) (l : List Turn) (n i : ℕ) (d : Turn) → n ≤ length l → i < n
-    → text_at time (lines_of last (drop i (take n l))) ≡ pass_text time last (get_or l i d) ++ text_at time (lines_of last (drop (i + 1) (take n l)))
-unfolding pass_text
-pass_next time last l n i d f h =
-    ap (λ (v : List Turn). text_at time (lines_of last v)) (left_of_first l n i d f h)
-    ∙ text_append time (those last (tells (get_or l i d))) (lines_of last (drop (i + 1) (take n l)))
+-- one station more
+pub pass_snoc : (time : Time) (last : Bool) (ts : List Turn) (t : Turn)
+    → text_at time (lines_of last (ts ++ (t ∷ []))) ≡ text_at time (lines_of last ts) ++ pass_text time last t
+unfolding pass_text text_of
+pass_snoc time last [] t = ap (λ (es : List Event). text_at time es) (append-nil (those last (tells t)))
+pass_snoc time last (u ∷ ts) t =
+    let own = those last (tells u) in
+    text_append time own (lines_of last (ts ++ (t ∷ [])))
+    ∙ ap (λ (v : List ℕ). text_at time own ++ v) (pass_snoc time last ts t)
+    ∙ sym (append_assoc (text_at time own) (text_at time (lines_of last ts)) (pass_text time last t))
+    ∙ ap (λ (v : List ℕ). v ++ pass_text time last t) (sym (text_append time own (lines_of last ts)))
 
 -- ---- the elapsed slots are shown on free lines alone
 

@@ -6,8 +6,9 @@ use Rattle.bus.specs.declared.bus.Bus.{Bus}
 use Rattle.walk.specs.Form.{form_of}
 use Rattle.walk.specs.Moments.{Now}
 use Rattle.walk.specs.Walk.{before, is_end, to_go, walked}
-use Rattle.walk.specs.declared.form.Form.{Form}
-use Rattle.walk.specs.declared.form.Form.TheVariants.{Good, BadField, TooLong}
+use Rattle.std.specs.Prelude.{Result, ⊤, Ok, Err}
+use Rattle.walk.specs.declared.form.FormError.{FormError}
+use Rattle.walk.specs.declared.form.FormError.TheVariants.{BadField, TooLong}
 use Rattle.walk.specs.declared.walk.Moment.{Moment}
 use Rattle.walk.specs.declared.walk.Moment.TheVariants.{Called, Told, Passed, Ended}
 use Rattle.walk.specs.declared.walk.Place.{Place}
@@ -16,7 +17,8 @@ use Rattle.scenario.specs.declared.fill.Stage.TheVariants.{Opening, Fields, Done
 use Rattle.scenario.specs.declared.fill.Printing.{Printing}
 use Rattle.scenario.specs.Lines.{verdict_text, slot_text, end_text, form_text}
 use Rattle.scenario.specs.Output.{header}
-use Rattle.scenario.specs.Pen.{Pen, pen, penned, room, page_room}
+use Rattle.scenario.specs.declared.pen.Pen.{Pen}
+use Rattle.scenario.specs.Pen.{pen, penned, room, page_room}
 
 -- what is printed at a moment
 abbrev pub moment_text : Moment → Bus → List ℕ
@@ -48,10 +50,10 @@ opening_text (Opening f) = header ++ form_text f
 opening_text Fields = []
 opening_text Done = []
 
-abbrev pub after_form : Form → Stage
-after_form Good = Fields
-after_form (BadField at) = Done
-after_form TooLong = Done
+abbrev pub after_form : Result ⊤ FormError → Stage
+after_form (Ok tt) = Fields
+after_form (Err (BadField at)) = Done
+after_form (Err TooLong) = Done
 
 abbrev pub opened : Stage → Stage
 opened (Opening f) = after_form f

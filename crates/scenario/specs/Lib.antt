@@ -3,3 +3,4 @@ pub mod Lines
 pub mod Output
 pub mod Pen
 pub mod ReadBack
+pub mod Series

@@ -8,11 +8,12 @@ use Rattle.station.specs.declared.station.Turn.{Turn}
 use Rattle.bus.specs.Events.{those, Line, line, events}
 use Rattle.bus.specs.Refusal.{refusal_number}
 use Rattle.bus.specs.declared.bus.Bus.{Bus}
-use Rattle.bus.specs.declared.refusal.Verdict.{Verdict}
-use Rattle.bus.specs.declared.refusal.Verdict.TheVariants.{Done, Refused}
+use Rattle.std.specs.Prelude.{Result, Ok, Err, ⊤}
+use Rattle.bus.specs.declared.refusal.Refusal.{Refusal}
 use Rattle.bus.specs.declared.time.Time.{Time}
-use Rattle.walk.specs.declared.form.Form.{Form}
-use Rattle.walk.specs.declared.form.Form.TheVariants.{Good, BadField, TooLong}
+use Rattle.std.specs.Prelude.{Result, ⊤, Ok, Err}
+use Rattle.walk.specs.declared.form.FormError.{FormError}
+use Rattle.walk.specs.declared.form.FormError.TheVariants.{BadField, TooLong}
 use Rattle.scenario.specs.Pen.{hex_text, decimal_text}
 
 -- " owns", " taken", " failed ", " free ", " given", " answer"
@@ -68,15 +69,15 @@ slot_text b = text_of (events b)
 abbrev pub refused_text : List ℕ
 refused_text = 114 ∷ 101 ∷ 102 ∷ 117 ∷ 115 ∷ 101 ∷ 100 ∷ 32 ∷ []
 
-abbrev pub verdict_text : Verdict → List ℕ
-verdict_text Done = []
-verdict_text (Refused r) = refused_text ++ decimal_text (refusal_number r) ++ newline
+abbrev pub verdict_text : Result ⊤ Refusal → List ℕ
+verdict_text (Ok tt) = []
+verdict_text (Err r) = refused_text ++ decimal_text (refusal_number r) ++ newline
 
 -- 14 with the offset, 15 with 65536
-abbrev pub form_text : Form → List ℕ
-form_text Good = []
-form_text (BadField at) = refused_text ++ decimal_text 14 ++ 32 ∷ decimal_text at ++ newline
-form_text TooLong = refused_text ++ decimal_text 15 ++ 32 ∷ decimal_text 65536 ++ newline
+abbrev pub form_text : Result ⊤ FormError → List ℕ
+form_text (Ok tt) = []
+form_text (Err (BadField at)) = refused_text ++ decimal_text 14 ++ 32 ∷ decimal_text at ++ newline
+form_text (Err TooLong) = refused_text ++ decimal_text 15 ++ 32 ∷ decimal_text 65536 ++ newline
 
 -- `end` and the slot number
 unfoldable pub end_text : ℕ → List ℕ

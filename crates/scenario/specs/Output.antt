@@ -1,13 +1,14 @@
 -- The whole program's output as a function of its input (01, "Bench program"). Assumes nothing.
-use Rattle.std.specs.Prelude.{cond, List, [], ◌∷◌, ◌++◌, ℕ, zero, suc, ltb, length}
+use Rattle.std.specs.Prelude.{cond, List, [], ◌∷◌, ◌++◌, ℕ, zero, suc, ltb, length, Option, Some, None}
 use Rattle.bus.specs.Bus.{powered_on}
 use Rattle.bus.specs.Slot.{slot_run}
 use Rattle.bus.specs.declared.bus.Bus.{Bus}
-use Rattle.bus.specs.declared.bus.Answer.{Answer}
+use Rattle.bus.specs.Bus.{Answer}
 use Rattle.walk.specs.declared.field.Field.{Field}
-use Rattle.walk.specs.declared.field.Field.TheVariants.{Master, Slave, Reply, Queue, Run, Heard, Quiet, Bad}
-use Rattle.walk.specs.declared.form.Form.{Form}
-use Rattle.walk.specs.declared.form.Form.TheVariants.{Good, BadField, TooLong}
+use Rattle.walk.specs.declared.field.Field.TheVariants.{Master, Slave, Reply, Queue, Run, Heard, Quiet}
+use Rattle.std.specs.Prelude.{Result, ⊤, Ok, Err}
+use Rattle.walk.specs.declared.form.FormError.{FormError}
+use Rattle.walk.specs.declared.form.FormError.TheVariants.{BadField, TooLong}
 use Rattle.walk.specs.Field.{field_at}
 use Rattle.walk.specs.Form.{form_of}
 use Rattle.walk.specs.Apply.{applied}
@@ -35,14 +36,18 @@ printed_as (Queue q z p s f) r = record { bus = r.bus; text = verdict_text r.ver
 printed_as (Run n) r = ran n r.bus
 printed_as (Heard x) r = record { bus = r.bus; text = slot_text r.bus }
 printed_as Quiet r = record { bus = r.bus; text = slot_text r.bus }
-printed_as Bad r = record { bus = r.bus; text = [] }
+
+-- nothing where there is no field
+abbrev pub printed_of : Option Field → Bus → List ℕ → ℕ → Printed
+printed_of (Some f) b s to = printed_as f (applied b f s to)
+printed_of None b s to = record { bus = b; text = [] }
 
 -- field after field, each applied in order
 unfoldable pub printed_from : ℕ → List ℕ → ℕ → Bus → List ℕ
 printed_from zero s at b = end_text b.slot
 printed_from (suc k) s at b =
     let p = field_at s at in
-    let done = printed_as p.field (applied b p.field s p.next) in
+    let done = printed_of p.field b s p.next in
     let rest = done.text ++ printed_from k s p.next done.bus in
     cond (ltb at (length s)) rest (end_text b.slot)
 
@@ -50,10 +55,10 @@ printed_from (suc k) s at b =
 abbrev pub header : List ℕ
 header = 101 ∷ 98 ∷ 117 ∷ 115 ∷ 32 ∷ 98 ∷ 101 ∷ 110 ∷ 99 ∷ 104 ∷ 10 ∷ []
 
-abbrev pub output_of : Form → List ℕ → List ℕ
-output_of Good s = printed_from (length s) s 0 powered_on
-output_of (BadField at) s = form_text (BadField at)
-output_of TooLong s = form_text TooLong
+abbrev pub output_of : Result ⊤ FormError → List ℕ → List ℕ
+output_of (Ok tt) s = printed_from (length s) s 0 powered_on
+output_of (Err (BadField at)) s = form_text (Err (BadField at))
+output_of (Err TooLong) s = form_text (Err TooLong)
 
 unfoldable pub output : List ℕ → List ℕ
 output s = header ++ output_of (form_of s) s

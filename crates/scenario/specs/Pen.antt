@@ -1,21 +1,26 @@
--- Bytes written one behind the other into a lent buffer, and numbers as text. Assumes nothing.
-use Rattle.std.specs.Prelude.{cond, List, [], ◌∷◌, ◌++◌, ℕ, zero, suc, ◌+◌, ◌/◌, ◌%◌, ltb, set}
+-- Bytes written one behind the other into a buffer, and numbers as text. Assumes nothing.
+use Rattle.std.specs.Prelude.{cond, List, [], ◌∷◌, ◌++◌, ℕ, zero, suc, ◌+◌, ◌/◌, ◌%◌, ltb, replicate, set}
+use Rattle.scenario.specs.declared.pen.Pen.{Pen}
 
 -- a page has room for 32 lines of at most 80 bytes
 abbrev pub page_room : ℕ
 page_room = 2560
 
--- the lent buffer has room for 25 pages and more
+-- the buffer has room for 25 pages and more
 abbrev pub room : ℕ
 room = 65536
 
 -- a buffer and the place behind the last byte written
-pub record Pen : Type 0 where
-  pub page : List ℕ
-  pub at : ℕ
-
 abbrev pub pen : List ℕ → ℕ → Pen
 pen page at = record { page = page; at = at }
+
+-- a buffer to be filled from its start, with whatever it holds
+abbrev pub rewound : List ℕ → Pen
+rewound page = pen page 0
+
+-- an empty buffer
+unfoldable pub blank : Pen
+blank = rewound (replicate room 0)
 
 -- one byte more; a full buffer stays as it is
 unfoldable pub penned_one : Pen → ℕ → Pen

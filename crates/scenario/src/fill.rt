@@ -1,18 +1,23 @@
-// The program's output, as much of it at a time as a lent buffer has room for: moment after moment while a whole page still fits.
+// The program's output, as much of it at a time as a buffer has room for: moment after moment while a whole page still fits.
 ghost use Rattle.std.specs.Prelude.{◌≡◌};
-ghost use Rattle.scenario.specs.Pen.{pen, penned};
-ghost use Rattle.scenario.specs.Fill.{printed, started, is_done, opening_text, after_form, opened, filling, fields_filled, filled_as, filled};
+ghost use Rattle.bus.specs.Find.{there_is};
+ghost use Rattle.bus.specs.declared.find.Query.TheVariants.{WasTold};
+ghost use Rattle.scenario.specs.Lines.{slot_text};
+ghost use Rattle.scenario.specs.Pen.{penned};
+ghost use Rattle.scenario.specs.Fill.{started, is_done, after_form, filling, fields_filled, filled};
+ghost use Rattle.scenario.specs.Series.{PrintsAll, is_over, fills_to_come, over_prints_nothing};
 
-use crate::pen::{PAGE, ROOM};
-use crate::{lines, pen};
+use crate::lines;
+use crate::pen::{PAGE, Pen, ROOM};
+use crate::series::Fills;
 use bus::bus::Bus;
-use walk::form::Form;
+use walk::form::FormError;
 use walk::walk::{Place, Task};
 
 // What is still to be printed: all of it, with what the form is; the fields; nothing.
 #[derive(Clone, Copy)]
 pub enum Stage {
-    Opening(Form),
+    Opening(Result<(), FormError>),
     Fields,
     Done,
 }
@@ -25,143 +30,31 @@ pub struct Printing {
     pub bus: Bus,
 }
 
-// How far it is printed after a fill, and how many bytes of the buffer it took.
-#[derive(Clone, Copy)]
-pub struct Filled {
-    pub printing: Printing,
-    pub used: usize,
-}
-
-fn after_form(f: Form) -> Stage
+fn after_form(f: Result<(), FormError>) -> Stage
     ensures { result ≡ after_form f }
 {
     match f {
-        Form::Good => Stage::Fields,
-        Form::BadField(_) => Stage::Done,
-        Form::TooLong => Stage::Done,
+        Ok(()) => Stage::Fields,
+        _ => Stage::Done,
     }
 }
 
-fn opened(t: Stage) -> Stage
-    ensures { result ≡ opened t }
+// The lines of a slot, and whether anybody was told anything in it.
+fn slot_lines(out: &mut Pen, bus: &Bus) -> bool
+    ensures lines { out.new ≡ penned out.old (slot_text bus.now) }
+    ensures told { result ≡ there_is bus.now WasTold }
 {
-    match t {
-        Stage::Opening(f) => after_form(f),
-        Stage::Fields => Stage::Fields,
-        Stage::Done => Stage::Done,
+    let time = bus.time_if_free();
+    let turns = &bus.turns[..bus.attached()];
+    let mut told = false;
+    for t in turns {
+        told = bus::rest::or_told(told, *t);
+        lines::first_of(out, time, *t);
     }
-}
-
-// The header, and of a bad form its line.
-fn opening(out: &mut [u8; ROOM], t: Stage) -> usize
-    ensures { pen out.new result ≡ penned (pen out.old 0) (opening_text t) }
-{
-    match t {
-        Stage::Opening(f) => {
-            let to = pen::word(out, 0, b"ebus bench\n");
-            lines::form_line(out, to, f)
-        }
-        Stage::Fields => 0,
-        Stage::Done => 0,
+    for t in turns {
+        lines::last_of(out, time, *t);
     }
-}
-
-fn is_done(t: Stage) -> bool
-    ensures { result ≡ is_done t }
-{
-    match t {
-        Stage::Opening(_) => false,
-        Stage::Fields => false,
-        Stage::Done => true,
-    }
-}
-
-fn printed(t: Stage, p: Place, b: Bus) -> Printing
-    ensures { result ≡ printed t p b }
-{
-    Printing {
-        stage: t,
-        place: p,
-        bus: b,
-    }
-}
-
-// The fields, from behind what the buffer already holds.
-fn fill_from(t: Stage, p: Place, b: Bus, s: &[u8], out: &mut [u8; ROOM], at: usize) -> Filled
-    ensures { filling result.printing (pen out.new result.used) ≡ filled_as t p b s.now (pen out.old at) }
-{
-    match t {
-        Stage::Opening(_) => Filled {
-            printing: printed(Stage::Done, p, b),
-            used: at,
-        },
-        Stage::Fields => fields(p, b, s, out, at),
-        Stage::Done => Filled {
-            printing: printed(Stage::Done, p, b),
-            used: at,
-        },
-    }
-}
-
-// A way to be fast, no rule; proved equal to the walk by `onward`: the bus stays in one local from field to field, and a slot's
-// lines are written from there.
-fn fields(p: Place, b: Bus, s: &[u8], out: &mut [u8; ROOM], at: usize) -> Filled
-    ensures { filling result.printing (pen out.new result.used) ≡ fields_filled p b s.now (pen out.old at) }
-{
-    let mut used = at;
-    let mut bus = b;
-    let mut place = p;
-    while used <= ROOM - PAGE {
-        let ahead = place.ahead(s);
-        let to = ahead.to;
-        let task = ahead.task;
-        let mut left: u32 = 0;
-        match task {
-            Task::Call(f) => {
-                let a = walk::apply::apply(bus, f, s, to);
-                let v = a.verdict;
-                bus = a.bus;
-                place = Place::within(to, 0);
-                used = lines::verdict_line(out, used, v);
-                continue;
-            }
-            Task::Slots(n) => {
-                let stop = bus.run(n);
-                bus = stop.bus;
-                left = stop.left;
-            }
-            Task::Hear(x) => {
-                bus = bus.slot_heard(x);
-            }
-            Task::Pass => {
-                place = Place::before(to);
-                continue;
-            }
-            Task::End => {
-                return Filled {
-                    printing: printed(Stage::Done, Place::before(to), bus),
-                    used: lines::end_line(out, used, bus.slot),
-                };
-            }
-        }
-        let n = bus.attached();
-        let time = bus.time_if_free();
-        let mut told = false;
-        for i in 0..n {
-            let t = bus.turns[i];
-            told = bus::rest::or_told(told, t);
-            used = lines::first_of(out, used, time, t);
-        }
-        for j in 0..n {
-            let t = bus.turns[j];
-            used = lines::last_of(out, used, time, t);
-        }
-        place = Place::came(to, left, told);
-    }
-    Filled {
-        printing: printed(Stage::Fields, place, bus),
-        used: used,
-    }
+    told
 }
 
 impl Printing {
@@ -169,28 +62,92 @@ impl Printing {
     pub fn start(s: &[u8]) -> Printing
         ensures { result ≡ started s.now }
     {
-        printed(
-            Stage::Opening(walk::form::form_of(s)),
-            Place::before(0),
-            Bus::power_on(),
-        )
+        Printing {
+            stage: Stage::Opening(walk::form::form_of(s)),
+            place: Place::before(0),
+            bus: Bus::power_on(),
+        }
     }
 
-    pub fn is_done(self) -> bool
-        ensures { result ≡ is_done self.stage }
+    pub fn is_done(&self) -> bool
+        ensures { result ≡ is_done self.now.stage }
     {
-        let t = self.stage;
-        is_done(t)
+        matches!(self.stage, Stage::Done)
     }
 
-    // One fill of a buffer.
-    pub fn fill(self, s: &[u8], out: &mut [u8; ROOM]) -> Filled
-        ensures { filling result.printing (pen out.new result.used) ≡ filled self s.now out.old }
+    // One fill of a buffer, from its start: the header, and of a bad form its line; then the fields.
+    pub fn fill(&mut self, s: &[u8], out: &mut Pen)
+        ensures { filling self.new out.new ≡ filled self.old s.now out.old.page }
     {
-        let t = self.stage;
-        let p = self.place;
-        let b = self.bus;
-        let at = opening(out, t);
-        fill_from(opened(t), p, b, s, out, at)
+        out.rewind();
+        if let Stage::Opening(f) = self.stage {
+            out.word(b"ebus bench\n");
+            lines::form_line(out, f);
+            self.stage = after_form(f);
+        }
+        if let Stage::Fields = self.stage {
+            self.fields(s, out);
+        }
     }
+
+    // A way to be fast, no rule; proved equal to the walk by `onward`: the bus stays in one local from field to field, and a slot's
+    // lines are written from there.
+    fn fields(&mut self, s: &[u8], out: &mut Pen)
+        ensures { filling self.new out.new ≡ fields_filled self.old.place self.old.bus s.now out.old }
+    {
+        let mut bus = self.bus;
+        let mut place = self.place;
+        let mut stage = Stage::Fields;
+        // No `for`: fields go on until the page is full or the scenario over.
+        while out.at <= ROOM - PAGE {
+            let ahead = place.ahead(s);
+            let to = ahead.to;
+            let mut left: u32 = 0;
+            match ahead.task {
+                Task::Call(f) => {
+                    let verdict = walk::apply::apply(&mut bus, Some(f), s, to);
+                    place = Place::within(to, 0);
+                    lines::verdict_line(out, verdict);
+                    continue;
+                }
+                Task::Slots(n) => {
+                    left = bus.run(n);
+                }
+                Task::Hear(x) => {
+                    bus.slot_heard(x);
+                }
+                Task::Pass => {
+                    place = Place::before(to);
+                    continue;
+                }
+                Task::End => {
+                    lines::end_line(out, bus.slot);
+                    place = Place::before(to);
+                    stage = Stage::Done;
+                    break;
+                }
+            }
+            let told = slot_lines(out, &bus);
+            place = Place::came(to, left, told);
+        }
+        *self = Printing { stage, place, bus };
+    }
+}
+
+impl Fills for Printing {
+    ghost Prints = { PrintsAll };
+
+    ghost is_over = { is_over };
+
+    ghost left = { fills_to_come };
+
+    fn is_over(&self, _s: &[u8]) -> bool {
+        self.is_done()
+    }
+
+    fn next(&mut self, s: &[u8], out: &mut Pen) {
+        self.fill(s, out);
+    }
+
+    ghost ends = { over_prints_nothing };
 }

@@ -4,3 +4,4 @@
 pub mod fill;
 pub mod lines;
 pub mod pen;
+pub mod series;

@@ -1,6 +1,5 @@
 -- The same for fields as whoever writes a scenario has them: as many lines as items, whatever they are. Assumes nothing.
 use mathlib.Core.Path.{◌≡◌, refl, sym, ap, ◌∙◌}
-use mathlib.Core.Bool.{false}
 use mathlib.Core.List.{List, [], ◌∷◌, ◌++◌, append_assoc}
 use Prim.Native.Nat.{ℕ, zero, suc, ◌+◌, ◌≤◌, ◌<◌}
 use native.Mathlib.Omega.{arith}
@@ -8,28 +7,19 @@ use borrow.Author.Tests.{lt-ltb, le-ltb}
 use lib.ListN.{length, length-append}
 use Rattle.walk.specs.Field.{length_at, is_bad}
 use Rattle.walk.specs.Form.{most}
-use Rattle.walk.specs.Tagged.{Item, master, slave, reply, queue, run, heard, quiet, item_bytes, scenario_of, field_of}
+use Rattle.walk.specs.Tagged.{Item, item_bytes, scenario_of}
 use Rattle.walk.specs.declared.field.Placed.{Placed}
 use Rattle.walk.proofs.TaggedRead.{tagged_read, fields_good}
 use Rattle.screen.specs.Fields.{fields_from, fields_in, lines_in}
 use Rattle.screen.specs.Output.{displayed}
 use Rattle.screen.proofs.ALineEachField.{next_behind, a_line_each_field}
 
-not_bad : (i : Item) (at : ℕ) → is_bad (field_of i at) ≡ false
-not_bad (master a) at = refl
-not_bad (slave a) at = refl
-not_bad (reply a p q ds) at = refl
-not_bad (queue q z p r ds) at = refl
-not_bad (run n) at = refl
-not_bad (heard x) at = refl
-not_bad quiet at = refl
-
 -- the next item begins where the field's length says
 item_next : (front : List ℕ) (i : Item) (l : List ℕ)
     → length front + 3 + length_at (front ++ (item_bytes i ++ l)) (length front) ≡ length (front ++ item_bytes i)
 item_next front i l =
     let e = tagged_read i front l in
-    sym (next_behind (front ++ (item_bytes i ++ l)) (length front) (ap (λ (p : Placed). is_bad p.field) e ∙ not_bad i (length front)))
+    sym (next_behind (front ++ (item_bytes i ++ l)) (length front) (ap (λ (p : Placed). is_bad p.field) e))
     ∙ ap (λ (p : Placed). p.next) e ∙ omega (arith, length-append front (item_bytes i))
 
 items_counted : (k : ℕ) (front : List ℕ) (is : List Item) → length (scenario_of is) ≤ k

@@ -9,16 +9,18 @@ use Rattle.bus.specs.declared.bus.Bus.{Bus}
 use Rattle.walk.specs.Field.{Bytes}
 use Rattle.walk.specs.Walk.{is_end, to_go, walked}
 use Rattle.walk.specs.declared.walk.Place.{Place}
-use Rattle.walk.specs.declared.walk.Step.{Step}
+use Rattle.walk.specs.Walk.{Step}
 use Rattle.walk.proofs.Going.{walked_nearer}
-use Rattle.scenario.specs.Pen.{Pen, pen, penned, room}
+use Rattle.scenario.specs.declared.pen.Pen.{Pen}
+use Rattle.scenario.specs.Pen.{pen, penned, room}
 use Rattle.screen.specs.declared.fill.Showing.{Showing}
+use Rattle.screen.specs.Series.{fills_to_come}
 use Rattle.screen.specs.Fill.{so_far, line_room, filling, filled_from, filled}
 use Rattle.screen.specs.Lines.{shown_text}
 
 -- no more fills than this are to come
 abbrev pub fills_left : Showing → List ℕ → ℕ
-fills_left g s = cond g.done 0 (to_go g.place s + 1)
+fills_left g s = fills_to_come s g
 
 at_most : (k : ℕ) (b : Bus) (p : Place) (s : List ℕ) (q : Pen) → Bytes s → fills_left (filled_from k b p s q).showing s ≤ to_go p s + 1
 unfolding filled_from

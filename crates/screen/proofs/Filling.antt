@@ -5,16 +5,17 @@ use mathlib.Core.List.{List}
 use Prim.Native.Nat.{ℕ, zero, suc, ◌-◌, ◌≤◌, ◌<◌}
 use native.Mathlib.Omega.{arith}
 use borrow.Author.Tests.{le-leb, lt-leb}
-use Rattle.ranks.specs.declared.Next.{Next}
+use Rattle.std.specs.Prelude.{Option}
 use Rattle.bus.specs.Waiting.{next_of}
 use Rattle.bus.specs.declared.bus.Bus.{Bus}
 use Rattle.walk.specs.Field.{Bytes}
 use Rattle.walk.specs.Walk.{is_end, to_go, walked}
 use Rattle.walk.specs.declared.walk.Moment.{Moment}
 use Rattle.walk.specs.declared.walk.Place.{Place}
-use Rattle.walk.specs.declared.walk.Step.{Step}
+use Rattle.walk.specs.Walk.{Step}
 use Rattle.walk.proofs.Going.{walked_nearer}
-use Rattle.scenario.specs.Pen.{Pen, pen, penned, room}
+use Rattle.scenario.specs.declared.pen.Pen.{Pen}
+use Rattle.scenario.specs.Pen.{pen, penned, room}
 use Rattle.screen.specs.declared.fill.Showing.{Showing}
 use Rattle.screen.specs.Fill.{Fill, filling, so_far, line_room, filled_from, filled}
 use Rattle.screen.specs.Lines.{shown_at, shown_text}
@@ -70,5 +71,5 @@ fills_on {b} {p} {s} {q} {more} {r} {n} bytes f h e i m = go f.turns f.enough f.
         }
 
 -- what is written at a moment, by who is next on the bus
-pub shown_is : (q : Pen) (m : Moment) (b : Bus) {more : Pen} {n : Next} → more ≡ penned q (shown_at m b.slot n) → n ≡ next_of b → more ≡ penned q (shown_text m b)
-shown_is q m b e f = e ∙ ap (λ (n : Next). penned q (shown_at m b.slot n)) f
+pub shown_is : (q : Pen) (m : Moment) (b : Bus) {more : Pen} {n : Option ℕ} → more ≡ penned q (shown_at m b.slot n) → n ≡ next_of b → more ≡ penned q (shown_text m b)
+shown_is q m b e f = e ∙ ap (λ (n : Option ℕ). penned q (shown_at m b.slot n)) f

@@ -13,11 +13,12 @@ use Rattle.walk.specs.Field.{Bytes}
 use Rattle.walk.specs.Form.{form_of}
 use Rattle.walk.specs.Moments.{Now, moments, Gives, last, one}
 use Rattle.walk.specs.Walk.{before, to_go}
-use Rattle.walk.specs.declared.form.Form.TheVariants.{Good}
+use Rattle.std.specs.Prelude.{Ok}
 use Rattle.walk.specs.declared.walk.Place.{Place}
 use Rattle.walk.proofs.Given.{walk_gives_moments}
 use Rattle.walk.proofs.Going.{walked_nearer}
-use Rattle.scenario.specs.Pen.{Pen, pen, penned, room}
+use Rattle.scenario.specs.declared.pen.Pen.{Pen}
+use Rattle.scenario.specs.Pen.{pen, penned, room}
 use Rattle.scenario.proofs.Fills.{place_is, written_bytes, same_length}
 use Rattle.scenario.proofs.Written.{penned_append}
 use Rattle.screen.specs.declared.fill.Showing.{Showing}
@@ -122,7 +123,7 @@ moments_shown s bytes (suc m) buffer b p l whole w i =
 -- ---- the theorem
 
 -- for every scenario of good form and every buffer
-pub fills_are_shown : (s buffer : List ℕ) → Bytes s → length buffer ≡ room → form_of s ≡ Good → Shown s started buffer (displayed s)
+pub fills_are_shown : (s buffer : List ℕ) → Bytes s → length buffer ≡ room → form_of s ≡ Ok tt → Shown s started buffer (displayed s)
 unfolding started displayed
 fills_are_shown s buffer bytes whole g =
     rw g (moments_shown s bytes (suc (length (shown_of (moments s)))) buffer powered_on (before 0) (moments s) whole (walk_gives_moments s g) (omega arith))

@@ -7,8 +7,7 @@ use native.Mathlib.Omega.{arith}
 use borrow.Author.Tests.{ltb-true, ne_eqb}
 use lib.Dec.{eqb, ltb}
 use Rattle.laws.proofs.FirstIs.{Every, none, next, every_append}
-use Rattle.ranks.specs.declared.Next.{Next}
-use Rattle.ranks.specs.declared.Next.TheVariants.{Master, Nobody}
+use Rattle.std.specs.Prelude.{Option, Some, None}
 use Rattle.scenario.specs.Lines.{newline}
 use Rattle.scenario.specs.Pen.{hex_digit, hex_text, last_digit, digits_of, decimal_text}
 use Rattle.screen.specs.Fields.{lines_in}
@@ -57,16 +56,16 @@ above (x ∷ xs) e = by (ltb 10 x) refl (above xs) e
     by true i on e = next (ltb-true 10 x i) (on e)
     by false i on e = absurd (false≢true e)
 
-next_above : (n : Next) → Above 10 (next_text n)
+next_above : (n : Option ℕ) → Above 10 (next_text n)
 unfolding hex_text
-next_above (Master a) = let space : 10 < 32 = omega arith in next space (next (hex_least (a / 16)) (next (hex_least a) none))
-next_above Nobody = above nobody_word refl
+next_above (Some a) = let space : 10 < 32 = omega arith in next space (next (hex_least (a / 16)) (next (hex_least a) none))
+next_above None = above nobody_word refl
 
 -- the line without its line feed
-abbrev pub line_body : ℕ → Next → List ℕ
+abbrev pub line_body : ℕ → Option ℕ → List ℕ
 line_body slot n = decimal_text slot ++ next_word ++ next_text n
 
-pub body_above : (slot : ℕ) (n : Next) → Above 10 (line_body slot n)
+pub body_above : (slot : ℕ) (n : Option ℕ) → Above 10 (line_body slot n)
 body_above slot n = every_append (every_append (decimal_above slot 10 (omega arith)) (above next_word refl)) (next_above n)
 
 -- ---- how many there are
@@ -86,11 +85,11 @@ unfolding lines_in
 no_feed none = refl
 no_feed (next {a = c} h w) = rw (ne_eqb c 10 (λ e. omega arith)) (no_feed w)
 
-one_feed : (slot : ℕ) (n : Next) → lines_in (line_text slot n) ≡ 1
+one_feed : (slot : ℕ) (n : Option ℕ) → lines_in (line_text slot n) ≡ 1
 unfolding line_text lines_in
 one_feed slot n =
     let feed : lines_in newline ≡ 1 = refl in
     omega (arith, lines_append (line_body slot n) newline, no_feed (body_above slot n), feed)
 
-pub one_more : (slot : ℕ) (n : Next) (rest : List ℕ) → lines_in (line_text slot n ++ rest) ≡ suc (lines_in rest)
+pub one_more : (slot : ℕ) (n : Option ℕ) (rest : List ℕ) → lines_in (line_text slot n ++ rest) ≡ suc (lines_in rest)
 one_more slot n rest = omega (arith, lines_append (line_text slot n) rest, one_feed slot n)

@@ -10,15 +10,16 @@ use Rattle.bus.specs.Find.{there_is}
 use Rattle.bus.specs.Slot.{slot_run}
 use Rattle.bus.specs.Waiting.{next_of}
 use Rattle.bus.specs.declared.bus.Bus.{Bus}
-use Rattle.bus.specs.declared.bus.Answer.{Answer}
+use Rattle.bus.specs.Bus.{Answer}
 use Rattle.bus.specs.declared.find.Query.TheVariants.{WasTold}
 use Rattle.walk.specs.Apply.{applied}
 use Rattle.walk.specs.Field.{field_at}
 use Rattle.walk.specs.Form.{form_of}
-use Rattle.walk.specs.Moments.{Now, now, Gone, told_in, ran, gone_as, moments_from, moments}
+use Rattle.walk.specs.Moments.{Now, now, Gone, told_in, ran, gone_as, gone_by, moments_from, moments}
+use Rattle.std.specs.Prelude.{Option, Some, None}
 use Rattle.walk.specs.declared.field.Field.{Field}
-use Rattle.walk.specs.declared.field.Field.TheVariants.{Master, Slave, Reply, Queue, Run, Heard, Quiet, Bad}
-use Rattle.walk.specs.declared.form.Form.TheVariants.{Good}
+use Rattle.walk.specs.declared.field.Field.TheVariants.{Master, Slave, Reply, Queue, Run, Heard, Quiet}
+use Rattle.std.specs.Prelude.{Ok}
 use Rattle.walk.specs.declared.walk.Moment.TheVariants.{Told, Passed, Ended}
 use Rattle.screen.specs.ByFields.{field_lines, lines_by_fields}
 use Rattle.screen.specs.Lines.{line_text, shown_text}
@@ -55,7 +56,11 @@ gone_nothing (Queue q z p s f) r = refl
 gone_nothing (Run n) r = ran_nothing n r.bus
 gone_nothing (Heard x) r = told_nothing r.bus []
 gone_nothing Quiet r = told_nothing r.bus []
-gone_nothing Bad r = refl
+
+placed_nothing : (f : Option Field) (b : Bus) (s : List ℕ) (to : ℕ) → shown_of (gone_by f b s to).moments ≡ []
+unfolding shown_of
+placed_nothing (Some f) b s to = gone_nothing f (applied b f s to)
+placed_nothing None b s to = refl
 
 -- ---- and at its end its line
 
@@ -69,14 +74,14 @@ unfolding moments_from field_lines shown_of
 from_fields zero s at b = refl
 from_fields (suc k) s at b = go (ltb at (length s)) (from_fields k s to gone.bus)
   where
-    f : Field
+    f : Option Field
     f = (field_at s at).field
 
     to : ℕ
     to = (field_at s at).next
 
     gone : Gone
-    gone = gone_as f (applied b f s to)
+    gone = gone_by f b s to
 
     line : List ℕ
     line = line_text gone.bus.slot (next_of gone.bus)
@@ -84,10 +89,10 @@ from_fields (suc k) s at b = go (ltb at (length s)) (from_fields k s to gone.bus
     go : (t : Bool) → shown_of (moments_from k s to gone.bus) ≡ field_lines k s to gone.bus
         → shown_of (cond t (gone.moments ++ (now Passed gone.bus ∷ moments_from k s to gone.bus)) (now Ended b ∷ []))
         ≡ cond t (line ++ field_lines k s to gone.bus) []
-    go true e = field_shown gone (moments_from k s to gone.bus) (gone_nothing f (applied b f s to)) ∙ ap (λ (v : List ℕ). line ++ v) e
+    go true e = field_shown gone (moments_from k s to gone.bus) (placed_nothing f b s to) ∙ ap (λ (v : List ℕ). line ++ v) e
     go false e = refl
 
 -- of every scenario of good form
-pub lines_by_fields_lem : (s : List ℕ) → form_of s ≡ Good → displayed s ≡ lines_by_fields s
+pub lines_by_fields_lem : (s : List ℕ) → form_of s ≡ Ok tt → displayed s ≡ lines_by_fields s
 unfolding displayed moments lines_by_fields
 lines_by_fields_lem s g = rw g (from_fields (length s) s 0 powered_on)

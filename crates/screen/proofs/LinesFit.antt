@@ -5,8 +5,7 @@ use mathlib.Core.List.{[], ◌++◌}
 use Prim.Native.Nat.{ℕ, ◌≤◌}
 use native.Mathlib.Omega.{arith}
 use lib.ListN.{length, length-append}
-use Rattle.ranks.specs.declared.Next.{Next}
-use Rattle.ranks.specs.declared.Next.TheVariants.{Master, Nobody}
+use Rattle.std.specs.Prelude.{Option, Some, None}
 use Rattle.bus.specs.Waiting.{next_of}
 use Rattle.bus.specs.declared.bus.Bus.{Bus}
 use Rattle.walk.specs.declared.walk.Moment.{Moment}
@@ -16,12 +15,12 @@ use Rattle.scenario.proofs.Fits.{decimal_most}
 use Rattle.screen.specs.Fill.{line_room}
 use Rattle.screen.specs.Lines.{next_word, next_text, line_text, is_shown, shown_text}
 
-next_most : (n : Next) → length (next_text n) ≤ 7
+next_most : (n : Option ℕ) → length (next_text n) ≤ 7
 unfolding hex_text
-next_most (Master a) = omega arith
-next_most Nobody = omega arith
+next_most (Some a) = omega arith
+next_most None = omega arith
 
-line_most : (slot : ℕ) (n : Next) → length (line_text slot n) ≤ line_room
+line_most : (slot : ℕ) (n : Option ℕ) → length (line_text slot n) ≤ line_room
 unfolding line_text
 line_most slot n =
     let a = decimal_text slot ++ next_word in
@@ -43,6 +42,6 @@ shown_most m b = go (is_shown m)
     go false = omega arith
 
 -- `4294967295 next nobody` is the longest
-pub longest : length (line_text 4294967295 Nobody) ≡ line_room
+pub longest : length (line_text 4294967295 None) ≡ line_room
 unfolding line_text decimal_text digits_of last_digit
 longest = refl

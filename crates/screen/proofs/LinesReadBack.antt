@@ -5,14 +5,13 @@ use Prim.Native.Nat.{ℕ, ◌^◌, ◌<◌}
 use native.Mathlib.Omega.{arith}
 use borrow.Author.Tests.{eq-eqb, ne_eqb, lt-ltb}
 use Rattle.laws.proofs.FirstIs.{Every, none, next}
-use Rattle.ranks.specs.declared.Next.{Next}
-use Rattle.ranks.specs.declared.Next.TheVariants.{Master, Nobody}
+use Rattle.std.specs.Prelude.{Option, Some, None}
 use Rattle.ranks.proofs.LeastRank.{IsByte, master, nobody, least_byte}
 use Rattle.bus.specs.Waiting.{next_of}
 use Rattle.bus.specs.declared.bus.Bus.{Bus}
 use Rattle.walk.specs.Form.{form_of}
 use Rattle.walk.specs.Moments.{Now, now, moments}
-use Rattle.walk.specs.declared.form.Form.TheVariants.{Good}
+use Rattle.std.specs.Prelude.{Ok}
 use Rattle.walk.specs.declared.walk.Moment.{Moment}
 use Rattle.walk.specs.declared.walk.Moment.TheVariants.{Called, Told, Passed, Ended}
 use Rattle.scenario.specs.Lines.{newline}
@@ -40,18 +39,18 @@ behind_is mark ys (next {a = c} h w) = rw (ne_eqb c mark (λ e. omega arith)) (b
 
 -- ---- one line
 
-next_back : {n : Next} → IsByte n → read_next (next_text n) ≡ n
+next_back : {n : Option ℕ} → IsByte n → read_next (next_text n) ≡ n
 unfolding read_next read_byte
 next_back (master {a} h) = simp (hex_reads_back a h, lt-ltb a 256 h)
 next_back nobody = refl
 
 -- behind the word `next`
-spaced : (n : Next) → 32 ∷ behind 32 ((110 ∷ 101 ∷ 120 ∷ 116 ∷ []) ++ next_text n) ≡ next_text n
+spaced : (n : Option ℕ) → 32 ∷ behind 32 ((110 ∷ 101 ∷ 120 ∷ 116 ∷ []) ++ next_text n) ≡ next_text n
 unfolding behind hex_text
-spaced (Master a) = refl
-spaced Nobody = refl
+spaced (Some a) = refl
+spaced None = refl
 
-pub line_reads_back : (slot : ℕ) (n : Next) → slot < 2 ^ 32 → IsByte n → read_line (line_body slot n) ≡ said slot n
+pub line_reads_back : (slot : ℕ) (n : Option ℕ) → slot < 2 ^ 32 → IsByte n → read_line (line_body slot n) ≡ said slot n
 unfolding read_line
 line_reads_back slot n h i =
     let rest : List ℕ = (110 ∷ 101 ∷ 120 ∷ 116 ∷ []) ++ next_text n in
@@ -90,6 +89,6 @@ lines_back (next {a = n} {l = l} h hs) = by n.moment n.bus h (lines_back hs)
     by Ended b h e = e
 
 -- of every scenario of good form
-pub lines_read_back : (s : List ℕ) → form_of s ≡ Good → read_text (displayed s) ≡ said_of (moments s)
+pub lines_read_back : (s : List ℕ) → form_of s ≡ Ok tt → read_text (displayed s) ≡ said_of (moments s)
 unfolding displayed
 lines_read_back s g = rw g (lines_back (slot_numbers s))

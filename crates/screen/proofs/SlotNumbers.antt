@@ -17,15 +17,16 @@ use Rattle.bus.specs.Reply.{replies}
 use Rattle.bus.specs.Slot.{slot_heard, slot_run}
 use Rattle.bus.specs.declared.bus.Bus.{Bus}
 use Rattle.bus.specs.declared.find.Query.TheVariants.{WasTold}
-use Rattle.bus.specs.declared.refusal.Verdict.{Verdict}
-use Rattle.bus.specs.declared.refusal.Verdict.TheVariants.{Done, Refused}
+use Rattle.std.specs.Prelude.{Result, Ok, Err, ⊤}
+use Rattle.bus.specs.declared.refusal.Refusal.{Refusal}
 use Rattle.bus.proofs.DoneChanges.{attach_done, queue_done, reply_done}
 use Rattle.bus.proofs.RefusedChangesNothing.{attach_refused, queue_refused, reply_refused}
 use Rattle.walk.specs.Apply.{bytes_from, applied}
 use Rattle.walk.specs.Field.{field_at}
-use Rattle.walk.specs.Moments.{Now, now, Gone, told_in, ran, gone_as, moments_from, moments}
+use Rattle.walk.specs.Moments.{Now, now, Gone, told_in, ran, gone_as, gone_by, moments_from, moments}
+use Rattle.std.specs.Prelude.{Option, Some, None}
 use Rattle.walk.specs.declared.field.Field.{Field}
-use Rattle.walk.specs.declared.field.Field.TheVariants.{Master, Slave, Reply, Queue, Run, Heard, Quiet, Bad}
+use Rattle.walk.specs.declared.field.Field.TheVariants.{Master, Slave, Reply, Queue, Run, Heard, Quiet}
 use Rattle.walk.specs.declared.walk.Moment.TheVariants.{Told, Passed, Ended}
 
 -- ---- a call leaves it as it is
@@ -33,23 +34,23 @@ use Rattle.walk.specs.declared.walk.Moment.TheVariants.{Told, Passed, Ended}
 attach_slot : (b : Bus) (a : ℕ) (m : Bool) → (attaches b a m).bus.slot ≡ b.slot
 attach_slot b a m = go (attaches b a m).verdict refl
   where
-    go : (v : Verdict) → (attaches b a m).verdict ≡ v → (attaches b a m).bus.slot ≡ b.slot
-    go Done e = (attach_done b a m e).slot
-    go (Refused r) e = ap (λ (c : Bus). c.slot) (attach_refused b a m r e)
+    go : (v : Result ⊤ Refusal) → (attaches b a m).verdict ≡ v → (attaches b a m).bus.slot ≡ b.slot
+    go (Ok tt) e = (attach_done b a m e).slot
+    go (Err r) e = ap (λ (c : Bus). c.slot) (attach_refused b a m r e)
 
 queue_slot : (b : Bus) (qq zz pb sb : ℕ) (bytes : List ℕ) → (queues b qq zz pb sb bytes).bus.slot ≡ b.slot
 queue_slot b qq zz pb sb bytes = go (queues b qq zz pb sb bytes).verdict refl
   where
-    go : (v : Verdict) → (queues b qq zz pb sb bytes).verdict ≡ v → (queues b qq zz pb sb bytes).bus.slot ≡ b.slot
-    go Done e = (queue_done b qq zz pb sb bytes e).changed.slot
-    go (Refused r) e = ap (λ (c : Bus). c.slot) (queue_refused b qq zz pb sb bytes r e)
+    go : (v : Result ⊤ Refusal) → (queues b qq zz pb sb bytes).verdict ≡ v → (queues b qq zz pb sb bytes).bus.slot ≡ b.slot
+    go (Ok tt) e = (queue_done b qq zz pb sb bytes e).changed.slot
+    go (Err r) e = ap (λ (c : Bus). c.slot) (queue_refused b qq zz pb sb bytes r e)
 
 reply_slot : (b : Bus) (a pb sb : ℕ) (bytes : List ℕ) → (replies b a pb sb bytes).bus.slot ≡ b.slot
 reply_slot b a pb sb bytes = go (replies b a pb sb bytes).verdict refl
   where
-    go : (v : Verdict) → (replies b a pb sb bytes).verdict ≡ v → (replies b a pb sb bytes).bus.slot ≡ b.slot
-    go Done e = (reply_done b a pb sb bytes e).changed.slot
-    go (Refused r) e = ap (λ (c : Bus). c.slot) (reply_refused b a pb sb bytes r e)
+    go : (v : Result ⊤ Refusal) → (replies b a pb sb bytes).verdict ≡ v → (replies b a pb sb bytes).bus.slot ≡ b.slot
+    go (Ok tt) e = (reply_done b a pb sb bytes e).changed.slot
+    go (Err r) e = ap (λ (c : Bus). c.slot) (reply_refused b a pb sb bytes r e)
 
 -- ---- a slot counts on
 
@@ -77,7 +78,6 @@ applied_counted (Queue q z p r from) b s to h = omega (arith, queue_slot b q z p
 applied_counted (Run n) b s to h = h
 applied_counted (Heard x) b s to h = heard_counted b (sound.Symbol x)
 applied_counted Quiet b s to h = heard_counted b sound.Quiet
-applied_counted Bad b s to h = h
 
 -- ---- a field, and all of them
 
@@ -108,24 +108,27 @@ gone_counted (Queue q z p r from) b s to h = record { after = h; each = next h n
 gone_counted (Run n) b s to h = ran_counted n (applied b (Run n) s to).bus h
 gone_counted (Heard x) b s to h = record { after = h; each = told_counted (applied b (Heard x) s to).bus h none }
 gone_counted Quiet b s to h = record { after = h; each = told_counted (applied b Quiet s to).bus h none }
-gone_counted Bad b s to h = record { after = h; each = none }
+
+placed_counted : (f : Option Field) (b : Bus) (s : List ℕ) (to : ℕ) → Counted b → Through (gone_by f b s to)
+placed_counted (Some f) b s to h = gone_counted f b s to (applied_counted f b s to h)
+placed_counted None b s to h = record { after = h; each = none }
 
 from_counted : (k : ℕ) (s : List ℕ) (at : ℕ) (b : Bus) → Counted b → Every CountedAt (moments_from k s at b)
 unfolding moments_from
 from_counted zero s at b h = next h none
 from_counted (suc k) s at b h = go (ltb at (length s)) (from_counted k s to gone.bus through.after)
   where
-    f : Field
+    f : Option Field
     f = (field_at s at).field
 
     to : ℕ
     to = (field_at s at).next
 
     gone : Gone
-    gone = gone_as f (applied b f s to)
+    gone = gone_by f b s to
 
     through : Through gone
-    through = gone_counted f b s to (applied_counted f b s to h)
+    through = placed_counted f b s to h
 
     go : (t : Bool) → Every CountedAt (moments_from k s to gone.bus)
         → Every CountedAt (cond t (gone.moments ++ (now Passed gone.bus ∷ moments_from k s to gone.bus)) (now Ended b ∷ []))

@@ -2,7 +2,7 @@
 -- Assumes nothing.
 use mathlib.Core.Path.{◌≡◌, refl}
 use mathlib.Core.List.{[], ◌∷◌}
-use Rattle.ranks.specs.declared.Next.TheVariants.{Master, Nobody}
+use Rattle.std.specs.Prelude.{Some, None}
 use Rattle.walk.specs.Field.{field_at}
 use Rattle.walk.specs.Form.{form_from, form_of}
 use Rattle.walk.specs.Moments.{moments_from, moments}
@@ -11,12 +11,12 @@ use Rattle.screen.specs.Lines.{line_text}
 use Rattle.screen.specs.Output.{shown_of, displayed}
 
 -- `11 next 10`
-pub ten_is_shown : line_text 11 (Master 0x10) ≡ 49 ∷ 49 ∷ 32 ∷ 110 ∷ 101 ∷ 120 ∷ 116 ∷ 32 ∷ 49 ∷ 48 ∷ 10 ∷ []
+pub ten_is_shown : line_text 11 (Some 0x10) ≡ 49 ∷ 49 ∷ 32 ∷ 110 ∷ 101 ∷ 120 ∷ 116 ∷ 32 ∷ 49 ∷ 48 ∷ 10 ∷ []
 unfolding line_text decimal_text digits_of last_digit hex_text hex_digit
 ten_is_shown = refl
 
 -- `11 next nobody`
-pub nobody_is_shown : line_text 11 Nobody ≡ 49 ∷ 49 ∷ 32 ∷ 110 ∷ 101 ∷ 120 ∷ 116 ∷ 32 ∷ 110 ∷ 111 ∷ 98 ∷ 111 ∷ 100 ∷ 121 ∷ 10 ∷ []
+pub nobody_is_shown : line_text 11 None ≡ 49 ∷ 49 ∷ 32 ∷ 110 ∷ 101 ∷ 120 ∷ 116 ∷ 32 ∷ 110 ∷ 111 ∷ 98 ∷ 111 ∷ 100 ∷ 121 ∷ 10 ∷ []
 unfolding line_text decimal_text digits_of last_digit
 nobody_is_shown = refl
 

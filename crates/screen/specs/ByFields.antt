@@ -3,14 +3,13 @@ use Rattle.std.specs.Prelude.{cond, List, [], ◌++◌, ℕ, zero, suc, ltb, len
 use Rattle.bus.specs.Bus.{powered_on}
 use Rattle.bus.specs.Waiting.{next_of}
 use Rattle.bus.specs.declared.bus.Bus.{Bus}
-use Rattle.walk.specs.Apply.{applied}
 use Rattle.walk.specs.Field.{field_at}
-use Rattle.walk.specs.Moments.{gone_as}
+use Rattle.walk.specs.Moments.{gone_by}
 use Rattle.screen.specs.Lines.{line_text}
 
 -- the bus when the field at a place is over
 abbrev pub after_field : List ℕ → ℕ → Bus → Bus
-after_field s at b = (gone_as (field_at s at).field (applied b (field_at s at).field s (field_at s at).next)).bus
+after_field s at b = (gone_by (field_at s at).field b s (field_at s at).next).bus
 
 -- each field in order, and behind it its line
 unfoldable pub field_lines : ℕ → List ℕ → ℕ → Bus → List ℕ

@@ -5,7 +5,8 @@ use Rattle.bus.specs.Bus.{powered_on}
 use Rattle.bus.specs.declared.bus.Bus.{Bus}
 use Rattle.walk.specs.Walk.{before, is_end, to_go, walked}
 use Rattle.walk.specs.declared.walk.Place.{Place}
-use Rattle.scenario.specs.Pen.{Pen, pen, penned, room}
+use Rattle.scenario.specs.declared.pen.Pen.{Pen}
+use Rattle.scenario.specs.Pen.{pen, penned, room}
 use Rattle.screen.specs.declared.fill.Showing.{Showing}
 use Rattle.screen.specs.Lines.{shown_text}
 

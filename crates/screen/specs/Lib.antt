@@ -4,4 +4,5 @@ pub mod Fill
 pub mod Lines
 pub mod Output
 pub mod ReadBack
+pub mod Series
 pub mod Writes

@@ -1,7 +1,6 @@
 -- The display's lines read back, for the law that each gives its slot number and who was next. Assumes nothing.
 use Rattle.std.specs.Prelude.{cond, List, [], ◌∷◌, ℕ, zero, suc, eqb, ltb}
-use Rattle.ranks.specs.declared.Next.{Next}
-use Rattle.ranks.specs.declared.Next.TheVariants.{Master, Nobody}
+use Rattle.std.specs.Prelude.{Option, Some, None}
 use Rattle.bus.specs.Waiting.{next_of}
 use Rattle.walk.specs.Moments.{Now, is_passed}
 use Rattle.scenario.specs.ReadBack.{read_decimal, read_byte}
@@ -20,14 +19,14 @@ behind mark (c ∷ cs) = let rest = behind mark cs in cond (eqb c mark) cs rest
 -- what a line says
 pub record Said : Type 0 where
   pub slot : ℕ
-  pub next : Next
+  pub next : Option ℕ
 
-abbrev pub said : ℕ → Next → Said
+abbrev pub said : ℕ → Option ℕ → Said
 said slot next = record { slot = slot; next = next }
 
 -- a space and two hex digits; anything else is nobody
-unfoldable pub read_next : List ℕ → Next
-read_next t = let a = read_byte t in cond (ltb a 256) (Master a) Nobody
+unfoldable pub read_next : List ℕ → Option ℕ
+read_next t = let a = read_byte t in cond (ltb a 256) (Some a) None
 
 -- a line without its line feed: digits up to the first space, a word, and what stands behind the second
 unfoldable pub read_line : List ℕ → Said

@@ -1,17 +1,18 @@
-// The lines of a scenario's fields, as many at a time as a lent buffer has room for: moment after moment while a whole line still fits.
+// The lines of a scenario's fields, as many at a time as a buffer has room for: moment after moment while a whole line still fits.
 ghost use Rattle.std.specs.Prelude.{◌≡◌};
-ghost use Rattle.scenario.specs.Pen.{pen};
-ghost use Rattle.screen.specs.Fill.{so_far, started, filling, filled};
+ghost use Rattle.screen.specs.Fill.{started, filling, filled};
+ghost use Rattle.screen.specs.Series.{PrintsAll, is_over, fills_to_come, over_prints_nothing};
 
 use crate::line;
 use bus::bus::Bus;
-use scenario::pen::ROOM;
+use scenario::pen::{Pen, ROOM};
+use scenario::series::Fills;
 use walk::walk::Place;
 
 // The longest line has ten digits, ` next nobody` and a line feed.
 pub const LINE: usize = 23;
 
-// How far a scenario is shown.
+// How far a scenario is shown. Place and bus stand where it is done too, so `done` is no Option of them.
 #[derive(Clone, Copy)]
 pub struct Showing {
     pub place: Place,
@@ -19,54 +20,50 @@ pub struct Showing {
     pub done: bool,
 }
 
-// How far it is shown after a fill, and how many bytes of the buffer it took.
-#[derive(Clone, Copy)]
-pub struct Filled {
-    pub showing: Showing,
-    pub used: usize,
-}
-
-fn so_far(p: Place, b: Bus, done: bool) -> Showing
-    ensures { result ≡ so_far p b done }
-{
-    Showing {
-        place: p,
-        bus: b,
-        done: done,
-    }
-}
-
 impl Showing {
     // Nothing is shown yet.
     pub fn start() -> Showing
         ensures { result ≡ started }
     {
-        so_far(Place::before(0), Bus::power_on(), false)
+        Showing {
+            place: Place::before(0),
+            bus: Bus::power_on(),
+            done: false,
+        }
     }
 
-    // One fill of a buffer.
-    pub fn fill(self, s: &[u8], out: &mut [u8; ROOM]) -> Filled
-        ensures { filling result.showing (pen out.new result.used) ≡ filled self s.now out.old }
+    // One fill of a buffer, from its start.
+    pub fn fill(&mut self, s: &[u8], out: &mut Pen)
+        ensures { filling self.new out.new ≡ filled self.old s.now out.old.page }
     {
-        let mut bus = self.bus;
-        let mut place = self.place;
-        let mut used: usize = 0;
-        while used <= ROOM - LINE {
-            let step = walk::walk::onward(bus, place, s, true);
-            let m = step.moment;
-            bus = step.bus;
-            place = step.place;
-            used = line::shown(out, used, m, bus.slot, bus.next());
-            if m.is_end() {
-                return Filled {
-                    showing: so_far(place, bus, true),
-                    used: used,
-                };
+        out.rewind();
+        self.done = false;
+        // No `for`: moments come until the page is full or the scenario over.
+        while out.at <= ROOM - LINE {
+            let moment = walk::walk::onward(&mut self.bus, &mut self.place, s, true);
+            line::shown(out, moment, self.bus.slot, self.bus.next());
+            if moment.is_end() {
+                self.done = true;
+                break;
             }
         }
-        Filled {
-            showing: so_far(place, bus, false),
-            used: used,
-        }
     }
+}
+
+impl Fills for Showing {
+    ghost Prints = { PrintsAll };
+
+    ghost is_over = { is_over };
+
+    ghost left = { fills_to_come };
+
+    fn is_over(&self, _s: &[u8]) -> bool {
+        self.done
+    }
+
+    fn next(&mut self, s: &[u8], out: &mut Pen) {
+        self.fill(s, out);
+    }
+
+    ghost ends = { over_prints_nothing };
 }

@@ -11,7 +11,8 @@ use lib.ListN.{length, drop, length-append, length-drop}
 use lib.Seq.{drop-append_seam}
 use Rattle.walk.specs.Field.{Bytes}
 use Rattle.walk.specs.Form.{most}
-use Rattle.walk.specs.declared.form.Form.TheVariants.{BadField, TooLong}
+use Rattle.std.specs.Prelude.{Err}
+use Rattle.walk.specs.declared.form.FormError.TheVariants.{BadField, TooLong}
 use Rattle.sheet.specs.Field.{field_at, is_bad}
 use Rattle.sheet.specs.Form.{form_from, form_of}
 use Rattle.sheet.specs.Tagged.{Item, item_bytes, sheet_of}
@@ -64,15 +65,15 @@ not_good : (s : List ℕ) (is : List Item) (rest : List ℕ) (i : Item) (l : Lis
 not_good s is rest i l e f b =
     true≢false (sym b ∙ rw (e, f, tagged_read i (sheet_of is) l) (never_bad i))
 
-short : (s : List ℕ) (n : ℕ) → form_of s ≡ BadField n → length s ≤ most
+short : (s : List ℕ) (n : ℕ) → form_of s ≡ Err (BadField n) → length s ≤ most
 unfolding form_of
 short s n e = go (ltb most (length s)) refl e
   where
-    go : (t : Bool) → ltb most (length s) ≡ t → cond t TooLong (form_from (length s) s 0) ≡ BadField n → length s ≤ most
+    go : (t : Bool) → ltb most (length s) ≡ t → cond t (Err TooLong) (form_from (length s) s 0) ≡ Err (BadField n) → length s ≤ most
     go true t e = let z : ◌≡◌ {A = ℕ} 0 1 = cc in absurd (omega arith)
     go false t e = ltb-false most (length s) t
 
-leads : (s : List ℕ) (n : ℕ) → Bytes s → form_of s ≡ BadField n → LeadsTo s n
+leads : (s : List ℕ) (n : ℕ) → Bytes s → form_of s ≡ Err (BadField n) → LeadsTo s n
 leads s n bytes e =
     let f = first_bad s n e in
     let p = passed bytes f.led in
@@ -106,7 +107,7 @@ bad_there s front rest bytes e none = go (is_bad (field_at s (length front)).ent
         absurd (none f.item _ (sym d ∙ f.starts))
 
 bad_behind : (k : ℕ) (front : List ℕ) (is : List Item) (rest : List ℕ) → Bytes (front ++ (sheet_of is ++ rest)) → length (sheet_of is) < k → 0 < length rest
-    → ((i : Item) (l : List ℕ) → rest ≡ item_bytes i ++ l → ⊥) → form_from k (front ++ (sheet_of is ++ rest)) (length front) ≡ BadField (length front + length (sheet_of is))
+    → ((i : Item) (l : List ℕ) → rest ≡ item_bytes i ++ l → ⊥) → form_from k (front ++ (sheet_of is ++ rest)) (length front) ≡ Err (BadField (length front + length (sheet_of is)))
 unfolding form_from sheet_of
 bad_behind zero front is rest bytes h some none = absurd (omega arith)
 bad_behind (suc k) front [] rest bytes h some none =
@@ -132,18 +133,18 @@ bad_behind (suc k) front (i ∷ is) rest bytes h some none =
       tagged_read i front l,
       never_bad i,
     )
-    (on_behind k front i l ∙ further ∙ ap BadField sum))
+    (on_behind k front i l ∙ further ∙ ap (λ n. Err (BadField n)) sum))
 
-names : (s : List ℕ) (n : ℕ) → Bytes s → LeadsTo s n → form_of s ≡ BadField n
+names : (s : List ℕ) (n : ℕ) → Bytes s → LeadsTo s n → form_of s ≡ Err (BadField n)
 unfolding form_of
 names s n bytes d =
     let long : length (sheet_of d.items) < length s =
     omega (arith, ap length d.theirs, length-append (sheet_of d.items) d.rest, d.some) in
-    let found : form_from (length s) s 0 ≡ BadField (0 + length (sheet_of d.items)) =
-    subst (λ (v : List ℕ). form_from (length s) v 0 ≡ BadField (0 + length (sheet_of d.items))) (sym d.theirs)
+    let found : form_from (length s) s 0 ≡ Err (BadField (0 + length (sheet_of d.items))) =
+    subst (λ (v : List ℕ). form_from (length s) v 0 ≡ Err (BadField (0 + length (sheet_of d.items)))) (sym d.theirs)
     (bad_behind (length s) [] d.items d.rest (subst Bytes d.theirs bytes) long d.some d.no_field) in
     let place : 0 + length (sheet_of d.items) ≡ n = omega (arith, d.offset) in
-    simp (le-ltb most (length s) d.not_too_long) (found ∙ ap BadField place)
+    simp (le-ltb most (length s) d.not_too_long) (found ∙ ap (λ n. Err (BadField n)) place)
 
-pub bad_exactly_when : (s : List ℕ) (n : ℕ) → Bytes s → (form_of s ≡ BadField n) ↔ LeadsTo s n
+pub bad_exactly_when : (s : List ℕ) (n : ℕ) → Bytes s → (form_of s ≡ Err (BadField n)) ↔ LeadsTo s n
 bad_exactly_when s n bytes = (leads s n bytes, names s n bytes)

@@ -1,5 +1,6 @@
 -- A value to write has its number, or its float's bits, in four bytes high first; a kind above 3 is refused (02, E2).
 -- Assumes nothing.
+use Rattle.std.specs.Prelude.{Some}
 use mathlib.Core.Path.{◌≡◌, refl, ap, ◌∙◌}
 use mathlib.Core.List.{◌∷◌}
 use Prim.Native.Nat.{ℕ, ◌+◌, ◌*◌, ◌/◌, ◌%◌, ◌<◌}
@@ -12,7 +13,6 @@ use Rattle.walk.specs.Field.{byte_at, pair_at}
 use Rattle.value.specs.Write.{write_as}
 use Rattle.value.specs.declared.value.DataType.{DataType}
 use Rattle.value.specs.declared.value.Value.TheVariants.{Whole, Percent, Temperature, Missing}
-use Rattle.sheet.specs.declared.given.Given.TheVariants.{Known}
 use Rattle.sheet.specs.Given.{word_of, of_kind, given_in}
 use Rattle.sheet.specs.Lines.{refused_line, code_line}
 use Rattle.sheet.specs.Tagged.{value, item_line, high_first}
@@ -30,18 +30,18 @@ unfolding given_in byte_at
 given_back kind n = ap (λ (k : ℕ). of_kind kind k) (word_back n)
 
 -- a whole number, and the bits of any float that an f32 holds
-pub whole_given : (n : ℕ) → given_in (0 ∷ high_first n) ≡ Known (Whole n)
+pub whole_given : (n : ℕ) → given_in (0 ∷ high_first n) ≡ Some (Whole n)
 unfolding of_kind
 whole_given n = given_back 0 n
 
 module _ (x : Float) (holds : T (fits binary32 x)) where
-  pub percent_given : given_in (1 ∷ high_first (to_bits binary32 x)) ≡ Known (Percent x)
+  pub percent_given : given_in (1 ∷ high_first (to_bits binary32 x)) ≡ Some (Percent x)
   unfolding of_kind
-  percent_given = given_back 1 (to_bits binary32 x) ∙ ap (λ (y : Float). Known (Percent y)) (of_bits-to_bits binary32 x holds)
+  percent_given = given_back 1 (to_bits binary32 x) ∙ ap (λ (y : Float). Some (Percent y)) (of_bits-to_bits binary32 x holds)
 
-  pub temperature_given : given_in (2 ∷ high_first (to_bits binary32 x)) ≡ Known (Temperature x)
+  pub temperature_given : given_in (2 ∷ high_first (to_bits binary32 x)) ≡ Some (Temperature x)
   unfolding of_kind
-  temperature_given = given_back 2 (to_bits binary32 x) ∙ ap (λ (y : Float). Known (Temperature y)) (of_bits-to_bits binary32 x holds)
+  temperature_given = given_back 2 (to_bits binary32 x) ∙ ap (λ (y : Float). Some (Temperature y)) (of_bits-to_bits binary32 x holds)
 
 -- in every type: missing whatever the four bytes are, and no kind above 3
 pub bits_ignored : (t : DataType) (a b c d : ℕ) → item_line (value t 3 a b c d) ≡ code_line (write_as t Missing)

@@ -1,4 +1,5 @@
 -- The text of so many 256ths, read back by a reader that knows nothing of how it was written, is that number exactly. Assumes nothing.
+use Rattle.std.specs.Prelude.{Some}
 use mathlib.Core.Path.{◌≡◌, refl, sym, ap, ◌∙◌}
 use mathlib.Core.Bool.{Bool, true, false, cond}
 use mathlib.Core.List.{List, [], ◌∷◌, ◌++◌, append_assoc}
@@ -150,5 +151,5 @@ minus_says t n c s = record { sign = refl; size = rw (bare t s.sign) at s.size }
 -- ---- the theorem
 
 -- so many 256ths up or down
-pub decimal_exact : (n : ℕ) → n < 16777216 → Says (count_text (Up n)) false n 256 × Says (count_text (Down n)) true n 256
+pub decimal_exact : (n : ℕ) → n < 16777216 → Says (count_text (Some (Up n))) false n 256 × Says (count_text (Some (Down n))) true n 256
 decimal_exact n h = let s = steps_exact n h in (s, minus_says (steps_text n) n 256 s)

@@ -8,8 +8,9 @@ use borrow.Author.Tests.{lt-ltb, le-ltb, ltb-false}
 use lib.Dec.{ltb}
 use lib.ListN.{length}
 use Rattle.walk.specs.Field.{byte_at, length_at}
-use Rattle.walk.specs.declared.form.Form.{Form}
-use Rattle.walk.specs.declared.form.Form.TheVariants.{Good, BadField}
+use Rattle.std.specs.Prelude.{Result, ⊤, Ok, Err}
+use Rattle.walk.specs.declared.form.FormError.{FormError}
+use Rattle.walk.specs.declared.form.FormError.TheVariants.{BadField}
 use Rattle.sheet.specs.declared.field.Placed.{Placed}
 use Rattle.sheet.specs.Field.{entry_of, no_field, field_at, is_bad}
 use Rattle.sheet.specs.Form.{form_from}
@@ -39,11 +40,21 @@ within s at h = go (ltb (length s) 3) refl (ltb (length s - 3) at) refl (ltb (le
         let ln = ltb-false (length s - (at + 3)) (length_at s at) g in
         record { past = omega arith; ordered = omega arith; ends = omega arith }
 
+-- the same of a field that was found there
+pub past : (s : List ℕ) (at : ℕ) {p : Placed} → p ≡ field_at s at → at < length s → at < p.next
+past s at e h = rw e (within s at h).past
+
+pub ordered : (s : List ℕ) (at : ℕ) {p : Placed} → p ≡ field_at s at → at < length s → p.from ≤ p.next
+ordered s at e h = rw e (within s at h).ordered
+
+pub ends : (s : List ℕ) (at : ℕ) {p : Placed} → p ≡ field_at s at → at < length s → p.next ≤ length s
+ends s at e h = rw e (within s at h).ends
+
 -- enough turns for what is left from a place on, and what they find
-abbrev pub Finds : List ℕ → ℕ → Form → Type 0
+abbrev pub Finds : List ℕ → ℕ → Result ⊤ FormError → Type 0
 Finds s at f = (k : ℕ) × (length s - at ≤ k) × (form_from k s at ≡ f)
 
-module _ (s : List ℕ) (at : ℕ) (f : Form) where
+module _ (s : List ℕ) (at : ℕ) (f : Result ⊤ FormError) where
   pub found_next : at < length s → is_bad (field_at s at).entry ≡ false → Finds s at f → Finds s (field_at s at).next f
   unfolding form_from
   found_next h e (zero, l, w) = absurd (omega arith)
@@ -51,12 +62,12 @@ module _ (s : List ℕ) (at : ℕ) (f : Form) where
       let p = within s at h in
       (k, omega (arith, p.past), sym (simp (e, lt-ltb at (length s) h)) ∙ w)
 
-  pub found_bad : at < length s → is_bad (field_at s at).entry ≡ true → Finds s at f → BadField at ≡ f
+  pub found_bad : at < length s → is_bad (field_at s at).entry ≡ true → Finds s at f → Err (BadField at) ≡ f
   unfolding form_from
   found_bad h e (zero, l, w) = absurd (omega arith)
   found_bad h e (suc k, l, w) = sym (simp (e, lt-ltb at (length s) h)) ∙ w
 
-  pub found_end : length s ≤ at → Finds s at f → Good ≡ f
+  pub found_end : length s ≤ at → Finds s at f → (Ok tt) ≡ f
   unfolding form_from
   found_end h (zero, l, w) = w
   found_end h (suc k, l, w) = sym (simp (le-ltb at (length s) h)) ∙ w

@@ -7,12 +7,13 @@ use native.Mathlib.Omega.{arith}
 use borrow.Author.Tests.{lt-ltb, le-ltb, ltb-true}
 use lib.Dec.{ltb}
 use lib.ListN.{length}
-use Rattle.scenario.specs.Pen.{Pen, pen, penned, room}
+use Rattle.scenario.specs.declared.pen.Pen.{Pen}
+use Rattle.scenario.specs.Pen.{pen, penned, room}
 use Rattle.sheet.specs.declared.field.Placed.{Placed}
 use Rattle.sheet.specs.Field.{field_at}
 use Rattle.sheet.specs.Fill.{line_room, Fill, filling, filled_from, filled}
 use Rattle.sheet.specs.Lines.{line_at}
-use Rattle.sheet.proofs.Fields.{within}
+use Rattle.sheet.proofs.Fields.{within, past, ordered, ends}
 
 -- enough turns for what is left from a place on, and where they come to
 pub record FillsTo (s : List ℕ) (at : ℕ) (q : Pen) (r : Fill) : Type 0 where
@@ -85,3 +86,6 @@ gets_on s at buffer l = go (length s - at) (omega arith)
     go (suc k) h =
         simp (lt-ltb at (length s) l)
         (omega (arith, (within s at l).past, never_back k s (field_at s at).next (penned (pen buffer 0) (line_at s (field_at s at)))))
+
+-- for the search
+pub ruleset field_filled = (past, ordered, ends, fills_first, fills_on)

@@ -8,7 +8,8 @@ use borrow.Author.Tests.{ltb-true}
 use lib.Dec.{ltb}
 use lib.ListN.{length}
 use Rattle.walk.specs.Form.{most}
-use Rattle.walk.specs.declared.form.Form.TheVariants.{Good, BadField, TooLong}
+use Rattle.std.specs.Prelude.{Ok, Err}
+use Rattle.walk.specs.declared.form.FormError.TheVariants.{BadField, TooLong}
 use Rattle.sheet.specs.Field.{field_at, is_bad}
 use Rattle.sheet.specs.Form.{form_from, form_of}
 
@@ -22,14 +23,14 @@ pub record FirstBad (s : List ℕ) (n : ℕ) : Type 0 where
   pub within : n < length s
   pub bad : is_bad (field_at s n).entry ≡ true
 
-bad_from : (k : ℕ) (s : List ℕ) (at n : ℕ) → Led s at → form_from k s at ≡ BadField n → FirstBad s n
+bad_from : (k : ℕ) (s : List ℕ) (at n : ℕ) → Led s at → form_from k s at ≡ Err (BadField n) → FirstBad s n
 unfolding form_from
 bad_from zero s at n l e = let z : ◌≡◌ {A = ℕ} 0 1 = cc in absurd (omega arith)
 bad_from (suc k) s at n l e = go (ltb at (length s)) (is_bad (field_at s at).entry) refl refl e (λ d e. bad_from k s (field_at s at).next n d e)
   where
     go : (t u : Bool) → ltb at (length s) ≡ t → is_bad (field_at s at).entry ≡ u
-        → cond t (cond u (BadField at) (form_from k s (field_at s at).next)) Good ≡ BadField n
-        → (Led s (field_at s at).next → form_from k s (field_at s at).next ≡ BadField n → FirstBad s n) → FirstBad s n
+        → cond t (cond u (Err (BadField at)) (form_from k s (field_at s at).next)) (Ok tt) ≡ Err (BadField n)
+        → (Led s (field_at s at).next → form_from k s (field_at s at).next ≡ Err (BadField n) → FirstBad s n) → FirstBad s n
     go true true f g e ih =
         let i : at ≡ n = cc in
         let w : FirstBad s at = record { led = l; within = ltb-true at (length s) f; bad = g } in
@@ -37,10 +38,10 @@ bad_from (suc k) s at n l e = go (ltb at (length s)) (is_bad (field_at s at).ent
     go true false f g e ih = ih (following l (ltb-true at (length s) f) g) e
     go false u f g e ih = let z : ◌≡◌ {A = ℕ} 0 1 = cc in absurd (omega arith)
 
-pub first_bad : (s : List ℕ) (n : ℕ) → form_of s ≡ BadField n → FirstBad s n
+pub first_bad : (s : List ℕ) (n : ℕ) → form_of s ≡ Err (BadField n) → FirstBad s n
 unfolding form_of
 first_bad s n e = go (ltb most (length s)) e
   where
-    go : (t : Bool) → cond t TooLong (form_from (length s) s 0) ≡ BadField n → FirstBad s n
+    go : (t : Bool) → cond t (Err TooLong) (form_from (length s) s 0) ≡ Err (BadField n) → FirstBad s n
     go true e = let z : ◌≡◌ {A = ℕ} 0 1 = cc in absurd (omega arith)
     go false e = bad_from (length s) s 0 n first e

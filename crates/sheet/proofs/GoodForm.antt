@@ -1,4 +1,5 @@
 -- A sheet has good form exactly when it is a list of fields in the tagged form, of at most 65,536 bytes. Assumes nothing.
+use Rattle.std.specs.Prelude.{Option}
 use mathlib.Core.Path.{◌≡◌, refl, sym, ap, subst, ◌∙◌}
 use mathlib.Core.Bool.{Bool, true, false, cond, true≢false}
 use mathlib.Core.List.{List, [], ◌∷◌, ◌++◌, append_assoc}
@@ -13,8 +14,9 @@ use lib.Seq.{drop-cons, drop-drop, length-take-le}
 use Rattle.walk.specs.Field.{Bytes, byte_at, pair_at, length_at}
 use Rattle.walk.specs.Form.{most}
 use Rattle.walk.specs.Tagged.{tagged}
-use Rattle.walk.specs.declared.form.Form.{Form}
-use Rattle.walk.specs.declared.form.Form.TheVariants.{Good, TooLong}
+use Rattle.std.specs.Prelude.{Result, ⊤, Ok, Err}
+use Rattle.walk.specs.declared.form.FormError.{FormError}
+use Rattle.walk.specs.declared.form.FormError.TheVariants.{TooLong}
 use Rattle.value.specs.declared.value.DataType.{DataType}
 use Rattle.value.specs.declared.value.DataType.TheVariants.{Bcd, Data1c, Data2b, Data2c}
 use Rattle.sheet.specs.declared.field.Entry.{Entry}
@@ -35,7 +37,7 @@ clash : {A : Type 0} → true ≡ false → A
 clash e = absurd (true≢false e)
 
 -- the entry where a test is passed, or where it is not
-by_test : {A : Type 0} (t : Bool) (x y : Entry) → (t ≡ true → is_bad x ≡ false → A) → (t ≡ false → is_bad y ≡ false → A) → is_bad (cond t x y) ≡ false → A
+by_test : {A : Type 0} (t : Bool) (x y : Option Entry) → (t ≡ true → is_bad x ≡ false → A) → (t ≡ false → is_bad y ≡ false → A) → is_bad (cond t x y) ≡ false → A
 by_test true x y f g e = f refl e
 by_test false x y f g e = g refl e
 
@@ -123,40 +125,40 @@ module _ (s : List ℕ) (at : ℕ) (bytes : Bytes s) where
 
 -- ---- all of them
 
-not_bad : (s : List ℕ) (at : ℕ) → at < length s → Finds s at Good → is_bad (field_at s at).entry ≡ false
+not_bad : (s : List ℕ) (at : ℕ) → at < length s → Finds s at (Ok tt) → is_bad (field_at s at).entry ≡ false
 not_bad s at h w = go (is_bad (field_at s at).entry) refl
   where
     go : (b : Bool) → is_bad (field_at s at).entry ≡ b → b ≡ false
-    go true e = let z : ◌≡◌ {A = ℕ} 0 1 = cc (found_bad s at Good h e w) in absurd (omega arith)
+    go true e = let z : ◌≡◌ {A = ℕ} 0 1 = cc (found_bad s at (Ok tt) h e w) in absurd (omega arith)
     go false e = refl
 
-items_from : (k : ℕ) (s : List ℕ) (at : ℕ) → Bytes s → length s - at ≤ k → Finds s at Good → (is : List Item) × (drop at s ≡ sheet_of is)
+items_from : (k : ℕ) (s : List ℕ) (at : ℕ) → Bytes s → length s - at ≤ k → Finds s at (Ok tt) → (is : List Item) × (drop at s ≡ sheet_of is)
 unfolding sheet_of
 items_from zero s at bytes h f = let l : length s ≤ at = omega arith in ([], drop_of_length-le s l)
 items_from (suc k) s at bytes h f = go (ltb at (length s)) refl (λ j g. items_from k s (field_at s at).next bytes j g)
   where
     go : (t : Bool) → ltb at (length s) ≡ t
-        → (length s - (field_at s at).next ≤ k → Finds s (field_at s at).next Good → (is : List Item) × (drop (field_at s at).next s ≡ sheet_of is))
+        → (length s - (field_at s at).next ≤ k → Finds s (field_at s at).next (Ok tt) → (is : List Item) × (drop (field_at s at).next s ≡ sheet_of is))
         → (is : List Item) × (drop at s ≡ sheet_of is)
     go true t ih =
         let l : at < length s = ltb-true at (length s) t in
         let b = not_bad s at l f in
         let i = field_item s at bytes b in
         let past = (within s at l).past in
-        let r = ih (omega arith) (found_next s at Good l b f) in
+        let r = ih (omega arith) (found_next s at (Ok tt) l b f) in
         (i.item ∷ r.0, i.starts ∙ ap (λ (q : List ℕ). item_bytes i.item ++ q) r.1)
     go false t ih = ([], drop_of_length-le s (ltb-false at (length s) t))
 
 -- a good form is not too long, and good from its first field on
 record GoodFrom (s : List ℕ) : Type 0 where
   short : length s ≤ most
-  finds : Finds s 0 Good
+  finds : Finds s 0 (Ok tt)
 
-good_from : (s : List ℕ) → form_of s ≡ Good → GoodFrom s
+good_from : (s : List ℕ) → form_of s ≡ Ok tt → GoodFrom s
 unfolding form_of
 good_from s e = go (ltb most (length s)) refl e
   where
-    go : (t : Bool) → ltb most (length s) ≡ t → cond t TooLong (form_from (length s) s 0) ≡ Good → GoodFrom s
+    go : (t : Bool) → ltb most (length s) ≡ t → cond t (Err TooLong) (form_from (length s) s 0) ≡ Ok tt → GoodFrom s
     go true t e = let z : ◌≡◌ {A = ℕ} 0 1 = cc in absurd (omega arith)
     go false t e = record { short = ltb-false most (length s) t; finds = (length s, omega arith, e) }
 
@@ -172,17 +174,17 @@ item_length (code t v) = omega arith
 item_length (block v) = omega arith
 item_length (value t kind a b c d) = omega arith
 
-either : (t : Bool) (f : Form) → f ≡ Good → cond t f Good ≡ Good
+either : (t : Bool) (f : Result ⊤ FormError) → f ≡ Ok tt → cond t f (Ok tt) ≡ Ok tt
 either true f e = e
 either false f e = refl
 
-on_behind : (k : ℕ) (front : List ℕ) (i : Item) (l : List ℕ) → form_from k ((front ++ item_bytes i) ++ l) (length (front ++ item_bytes i)) ≡ Good
-    → form_from k (front ++ (item_bytes i ++ l)) (length front + 3 + length (value_bytes i)) ≡ Good
+on_behind : (k : ℕ) (front : List ℕ) (i : Item) (l : List ℕ) → form_from k ((front ++ item_bytes i) ++ l) (length (front ++ item_bytes i)) ≡ Ok tt
+    → form_from k (front ++ (item_bytes i ++ l)) (length front + 3 + length (value_bytes i)) ≡ Ok tt
 on_behind k front i l e =
     let n : length (front ++ item_bytes i) ≡ length front + 3 + length (value_bytes i) = omega (arith, length-append front (item_bytes i), item_length i) in
     rw n at (rw append_assoc at e)
 
-in_order : (k : ℕ) (front : List ℕ) (is : List Item) → form_from k (front ++ sheet_of is) (length front) ≡ Good
+in_order : (k : ℕ) (front : List ℕ) (is : List Item) → form_from k (front ++ sheet_of is) (length front) ≡ Ok tt
 unfolding form_from sheet_of
 in_order zero front is = refl
 in_order (suc k) front [] =
@@ -192,7 +194,7 @@ in_order (suc k) front (i ∷ is) =
     either (ltb (length front) (length (front ++ (item_bytes i ++ sheet_of is)))) _
     (simp (tagged_read i front (sheet_of is), never_bad i) (on_behind k front i (sheet_of is) (in_order k (front ++ item_bytes i) is)))
 
-pub fields_good : (is : List Item) → length (sheet_of is) ≤ most → form_of (sheet_of is) ≡ Good
+pub fields_good : (is : List Item) → length (sheet_of is) ≤ most → form_of (sheet_of is) ≡ Ok tt
 unfolding form_of
 fields_good is h = simp (le-ltb most (length (sheet_of is)) h) (in_order (length (sheet_of is)) [] is)
 
@@ -204,11 +206,11 @@ pub record Fields (s : List ℕ) : Type 0 where
   pub theirs : s ≡ sheet_of items
   pub not_too_long : length s ≤ most
 
-pub good_exactly_when : (s : List ℕ) → Bytes s → (form_of s ≡ Good) ↔ Fields s
+pub good_exactly_when : (s : List ℕ) → Bytes s → (form_of s ≡ Ok tt) ↔ Fields s
 good_exactly_when s bytes = (
   λ e.
       let g = good_from s e in
       let w = items_from (length s) s 0 bytes (omega arith) g.finds in
       record { items = w.0; theirs = w.1; not_too_long = g.short },
-  λ f. subst (λ (l : List ℕ). form_of l ≡ Good) (sym f.theirs) (fields_good f.items (subst (λ (l : List ℕ). length l ≤ most) f.theirs f.not_too_long)),
+  λ f. subst (λ (l : List ℕ). form_of l ≡ Ok tt) (sym f.theirs) (fields_good f.items (subst (λ (l : List ℕ). length l ≤ most) f.theirs f.not_too_long)),
 )

@@ -1,5 +1,6 @@
 -- Every float that is read is a number of 256ths, so its text is never empty, and the line of a code says the coded number exactly.
 -- Assumes nothing.
+use Rattle.std.specs.Prelude.{Option, Some, None, Result, Ok, Err}
 use mathlib.Core.Path.{◌≡◌, refl, sym, ap, subst, ◌∙◌}
 use mathlib.Core.Bool.{Bool, true, false, cond}
 use mathlib.Core.List.{List, [], ◌∷◌, ◌++◌}
@@ -14,14 +15,15 @@ use lib.Ieee.{Float, nan, inf, fin, up, down}
 use lib.Ieee.Exact.{HasValue}
 use lib.ListN.{length, get_or, length-append}
 use Rattle.value.specs.Answers.{block_number, block_percents}
-use Rattle.value.specs.Block.{verdict_of, block_by, block_of}
+use Rattle.value.specs.Block.{block_of}
 use Rattle.value.specs.Claims.{Bytes, signed, coded, places, Exactly, GivesFloat, EachRead}
 use Rattle.value.specs.Read.{read_as}
 use Rattle.value.specs.Steps.{per, count_of}
-use Rattle.value.specs.declared.block.Verdict.{Verdict}
-use Rattle.value.specs.declared.block.Verdict.TheVariants.{Accepted, NoBlock, ShareMissing, NotAHundred}
+use Rattle.value.specs.declared.block.BlockError.{BlockError}
+use Rattle.value.specs.declared.block.BlockError.TheVariants.{NoBlock, ShareMissing, NotAHundred}
+use Rattle.value.specs.declared.block.Shares.{Shares}
 use Rattle.value.specs.declared.steps.Count.{Count}
-use Rattle.value.specs.declared.steps.Count.TheVariants.{Up, Down, Uneven}
+use Rattle.value.specs.declared.steps.Count.TheVariants.{Up, Down}
 use Rattle.value.specs.declared.value.DataType.{DataType}
 use Rattle.value.specs.declared.value.DataType.TheVariants.{Bcd, Data1c, Data2b, Data2c}
 use Rattle.value.proofs.Refused17.{one_byte, two_bytes}
@@ -51,9 +53,9 @@ abbrev Small : ℤ → Type 0
 Small (pos n) = n < 65536
 Small (negsuc n) = suc n < 65536
 
-abbrev count_for : ℤ → ℕ → Count
-count_for (pos n) j = Up (n * j)
-count_for (negsuc n) j = Down (suc n * j)
+abbrev count_for : ℤ → ℕ → Option Count
+count_for (pos n) j = Some (Up (n * j))
+count_for (negsuc n) j = Some (Down (suc n * j))
 
 -- how many 256ths make a step
 record Divides (c : ℕ) : Type 0 where
@@ -87,9 +89,9 @@ says_coarser : (t : List ℕ) (s : Bool) (n c : ℕ) (d : Divides c) → Says t 
 says_coarser t s n c d w = record { sign = w.sign; size = coarser _ n c d.by d.some d.whole w.size }
 
 count_says : (z : ℤ) (c : ℕ) (d : Divides c) → Small z → SaysNumber (count_text (count_for z d.by)) z c
-count_says (pos n) c d h = says_coarser (count_text (Up (n * d.by))) false n c d (decimal_exact (n * d.by) (few_enough n d.by h d.few)).0
+count_says (pos n) c d h = says_coarser (count_text (Some (Up (n * d.by)))) false n c d (decimal_exact (n * d.by) (few_enough n d.by h d.few)).0
 count_says (negsuc n) c d h =
-    says_coarser (count_text (Down (suc n * d.by))) true (suc n) c d (decimal_exact (suc n * d.by) (few_enough (suc n) d.by h d.few)).1
+    says_coarser (count_text (Some (Down (suc n * d.by)))) true (suc n) c d (decimal_exact (suc n * d.by) (few_enough (suc n) d.by h d.few)).1
 
 digits_some : (k n : ℕ) → 0 < length (digits_of (suc k) n)
 unfolding digits_of
@@ -115,7 +117,7 @@ count_some : (z : ℤ) (j : ℕ) → 0 < length (count_text (count_for z j))
 count_some (pos n) j = steps_some (n * j)
 count_some (negsuc n) j = omega (arith, length-append minus (steps_text (suc n * j)))
 
-never_uneven : (z : ℤ) (j : ℕ) → count_for z j ≢ Uneven
+never_uneven : (z : ℤ) (j : ℕ) → count_for z j ≢ None
 never_uneven (pos n) j e = let w : ◌≡◌ {A = ℕ} 0 1 = cc in omega arith
 never_uneven (negsuc n) j e = let w : ◌≡◌ {A = ℕ} 0 1 = cc in omega arith
 
@@ -145,7 +147,7 @@ module _ (t : DataType) (bs : List ℕ) (x : Float) (B : Bytes bs) (g : GivesFlo
   counted = number_count x (coded t bs) (2 ^ places t) (divides t) (coded_small t bs B) (scaled_exactly t bs x B g).1
 
   -- it is a number of 256ths, and has a text
-  pub always_decimal : (count_of (per 8) x ≢ Uneven) × (0 < length (float_text x))
+  pub always_decimal : (count_of (per 8) x ≢ None) × (0 < length (float_text x))
   unfolding float_text
   always_decimal = rw counted (never_uneven (coded t bs) (divides t).by, count_some (coded t bs) (divides t).by)
 
@@ -204,10 +206,10 @@ pub record SharesLine (line bs : List ℕ) : Type 0 where
   pub says : ShareTexts bs text
 
 pub shares_line : (bs : List ℕ) → Bytes bs → block_number (block_of bs) ≡ 0 → SharesLine (item_line (block bs)) bs
-shares_line bs B e = record { text = shares_text (block_percents (block_of bs)); line_is = go (verdict_of bs) e; says = share_texts B (shares_as_read bs e) }
+shares_line bs B e = record { text = shares_text (block_percents (block_of bs)); line_is = go (block_of bs) e; says = share_texts B (shares_as_read bs e) }
   where
-    go : (v : Verdict) → block_number (block_by v bs) ≡ 0 → block_line (block_by v bs) ≡ shares_word ++ shares_text (block_percents (block_by v bs)) ++ newline
-    go Accepted e = refl
-    go NoBlock e = absurd (omega arith)
-    go ShareMissing e = absurd (omega arith)
-    go NotAHundred e = absurd (omega arith)
+    go : (r : Result Shares BlockError) → block_number r ≡ 0 → block_line r ≡ shares_word ++ shares_text (block_percents r) ++ newline
+    go (Ok s) e = refl
+    go (Err NoBlock) e = absurd (omega arith)
+    go (Err ShareMissing) e = absurd (omega arith)
+    go (Err NotAHundred) e = absurd (omega arith)

@@ -1,4 +1,5 @@
 -- No line is longer than a fill leaves room for. Assumes nothing.
+use Rattle.std.specs.Prelude.{Option, Some, None, Result, Ok, Err}
 use mathlib.Core.Path.{◌≡◌, refl}
 use mathlib.Core.Bool.{Bool, true, false, cond}
 use mathlib.Core.List.{List, [], ◌∷◌, ◌++◌}
@@ -9,36 +10,32 @@ use borrow.Author.Tests.{eqb-true, eqb-false}
 use lib.Dec.{eqb}
 use lib.Ieee.{Float}
 use lib.ListN.{length, length-append}
-use Rattle.value.specs.Answers.{reading_number, verdict_number, code_number, code_bytes, block_number, block_percents}
+use Rattle.value.specs.Answers.{reading_number, fault_number, code_number, code_bytes, block_number, block_percents}
 use Rattle.value.specs.Block.{block_of}
 use Rattle.value.specs.Claims.{EachRead, no_more, and_so}
 use Rattle.value.specs.Read.{read_as}
 use Rattle.value.specs.Steps.{per, count_of}
 use Rattle.value.specs.Write.{write_as}
-use Rattle.value.specs.declared.block.Verdict.{Verdict}
-use Rattle.value.specs.declared.block.Verdict.TheVariants.{Accepted, NoBlock, ShareMissing, NotAHundred}
-use Rattle.value.specs.declared.read.Reading.{Reading}
-use Rattle.value.specs.declared.read.Reading.TheVariants.{Of, NoValue}
+use Rattle.value.specs.declared.block.BlockError.{BlockError}
+use Rattle.value.specs.declared.block.Shares.{Shares as BlockShares}
 use Rattle.value.specs.declared.steps.Count.{Count}
-use Rattle.value.specs.declared.steps.Count.TheVariants.{Up, Down, Uneven}
+use Rattle.value.specs.declared.steps.Count.TheVariants.{Up, Down}
 use Rattle.value.specs.declared.value.DataType.{DataType}
 use Rattle.value.specs.declared.value.Value.{Value}
 use Rattle.value.specs.declared.value.Value.TheVariants.{Whole, Percent, Temperature, Missing}
 use Rattle.value.specs.declared.write.Code.{Code}
-use Rattle.value.specs.declared.write.Code.TheVariants.{One, Two, NoCode}
+use Rattle.value.specs.declared.write.Code.TheVariants.{One, Two}
 use Rattle.value.proofs.MakeAHundred.{accepted_exactly_when, shares_as_read, refused_gives_none}
 use Rattle.scenario.specs.Lines.{newline, hexes_text, refused_text}
 use Rattle.scenario.specs.Pen.{last_digit, decimal_text}
 use Rattle.scenario.proofs.Fits.{decimal_most, hexes_length}
 use Rattle.scenario.proofs.Written.{one_digit}
 use Rattle.sheet.specs.declared.field.Entry.{Entry}
-use Rattle.sheet.specs.declared.field.Entry.TheVariants.{Read, Shares, Write, Bad}
-use Rattle.sheet.specs.declared.given.Given.{Given}
-use Rattle.sheet.specs.declared.given.Given.TheVariants.{Known, NoKind}
+use Rattle.sheet.specs.declared.field.Entry.TheVariants.{Read, Shares, Write}
 use Rattle.sheet.specs.Decimal.{fraction_text, point, minus, steps_text, count_text, float_text}
 use Rattle.sheet.specs.Fill.{line_room}
 use Rattle.sheet.specs.Given.{given_in}
-use Rattle.sheet.specs.Lines.{whole_word, percent_word, temperature_word, shares_word, code_word, refused_line, value_text, reading_line, shares_text, verdict_line, code_line, written_line, entry_line}
+use Rattle.sheet.specs.Lines.{whole_word, percent_word, temperature_word, shares_word, code_word, refused_line, value_text, reading_line, shares_text, block_line, code_line, written_line, entry_line}
 
 -- ---- numbers
 
@@ -73,10 +70,10 @@ steps_most n = go (eqb (n % 256) 0)
           fraction_most 8 (n % 256) (omega arith),
         )
 
-count_most : (k : Count) → length (count_text k) ≤ 20
-count_most (Up n) = omega (arith, steps_most n)
-count_most (Down n) = omega (arith, length-append minus (steps_text n), steps_most n)
-count_most Uneven = omega arith
+count_most : (k : Option Count) → length (count_text k) ≤ 20
+count_most (Some (Up n)) = omega (arith, steps_most n)
+count_most (Some (Down n)) = omega (arith, length-append minus (steps_text n), steps_most n)
+count_most None = omega arith
 
 float_most : (x : Float) → length (float_text x) ≤ 20
 unfolding float_text
@@ -95,9 +92,9 @@ value_most (Percent x) = omega (arith, length-append percent_word (float_text x)
 value_most (Temperature x) = omega (arith, length-append temperature_word (float_text x), float_most x)
 value_most Missing = omega arith
 
-reading_most : (r : Reading) → length (reading_line r) ≤ line_room
-reading_most (Of v) = omega (arith, length-append (value_text v) newline, value_most v)
-reading_most NoValue = refused_most (reading_number NoValue)
+reading_most : (r : Option Value) → length (reading_line r) ≤ line_room
+reading_most (Some v) = omega (arith, length-append (value_text v) newline, value_most v)
+reading_most None = refused_most (reading_number None)
 
 shares_most : (xs : List Float) → length (shares_text xs) ≤ 21 * length xs
 unfolding shares_text
@@ -122,29 +119,28 @@ eight_shares bs = go (eqb (block_number (block_of bs)) 0) refl
         few m n f = omega arith
     go false e = rw (refused_gives_none bs (eqb-false (block_number (block_of bs)) 0 e)) (omega arith)
 
-verdict_most : (v : Verdict) (xs : List Float) → length xs ≤ 8 → length (verdict_line v xs) ≤ line_room
-verdict_most Accepted xs h =
+block_most : (r : Result BlockShares BlockError) → length (block_percents r) ≤ 8 → length (block_line r) ≤ line_room
+block_most (Ok s) h =
+    let xs = block_percents (Ok s) in
     omega (arith, length-append (shares_word ++ shares_text xs) newline, length-append shares_word (shares_text xs), shares_most xs)
-verdict_most NoBlock xs h = refused_most (verdict_number NoBlock)
-verdict_most ShareMissing xs h = refused_most (verdict_number ShareMissing)
-verdict_most NotAHundred xs h = refused_most (verdict_number NotAHundred)
+block_most (Err e) h = refused_most (fault_number e)
 
-code_most : (r : Code) → length (code_line r) ≤ line_room
-code_most (One b) =
-    let h = hexes_text (code_bytes (One b)) in
-    omega (arith, length-append (code_word ++ h) newline, length-append code_word h, hexes_length (code_bytes (One b)))
-code_most (Two low high) =
-    let h = hexes_text (code_bytes (Two low high)) in
-    omega (arith, length-append (code_word ++ h) newline, length-append code_word h, hexes_length (code_bytes (Two low high)))
-code_most NoCode = refused_most (code_number NoCode)
+code_most : (r : Option Code) → length (code_line r) ≤ line_room
+code_most (Some (One b)) =
+    let h = hexes_text (code_bytes (Some (One b))) in
+    omega (arith, length-append (code_word ++ h) newline, length-append code_word h, hexes_length (code_bytes (Some (One b))))
+code_most (Some (Two low high)) =
+    let h = hexes_text (code_bytes (Some (Two low high))) in
+    omega (arith, length-append (code_word ++ h) newline, length-append code_word h, hexes_length (code_bytes (Some (Two low high))))
+code_most None = refused_most (code_number None)
 
-written_most : (t : DataType) (g : Given) → length (written_line t g) ≤ line_room
-written_most t (Known v) = code_most (write_as t v)
-written_most t NoKind = refused_most (code_number NoCode)
+written_most : (t : DataType) (g : Option Value) → length (written_line t g) ≤ line_room
+written_most t (Some v) = code_most (write_as t v)
+written_most t None = refused_most (code_number None)
 
 -- whatever the field and its value
-pub entry_most : (e : Entry) (v : List ℕ) → length (entry_line e v) ≤ line_room
-entry_most (Read t) v = reading_most (read_as t v)
-entry_most Shares v = verdict_most (block_of v).verdict (block_percents (block_of v)) (eight_shares v)
-entry_most (Write t) v = written_most t (given_in v)
-entry_most Bad v = omega arith
+pub entry_most : (e : Option Entry) (v : List ℕ) → length (entry_line e v) ≤ line_room
+entry_most (Some (Read t)) v = reading_most (read_as t v)
+entry_most (Some Shares) v = block_most (block_of v) (eight_shares v)
+entry_most (Some (Write t)) v = written_most t (given_in v)
+entry_most None v = omega arith

@@ -4,6 +4,7 @@ use mathlib.Core.List.{[], ◌++◌}
 use Prim.Native.Nat.{ℕ, zero, suc, ◌-◌, ◌*◌, ◌/◌, ◌%◌, ◌≤◌, ◌<◌}
 use native.Mathlib.Omega.{arith}
 use borrow.Author.Tests.{ne_eqb}
+use Rattle.scenario.proofs.Written.{penned_both, penned_none}
 use Rattle.scenario.specs.Pen.{decimal_text}
 use Rattle.sheet.specs.Decimal.{fraction_text}
 
@@ -27,3 +28,6 @@ next_place zero part h n = absurd (omega arith)
 next_place (suc k) part h n =
     let e : suc k - 1 ≡ k = omega arith in
     simp (ne_eqb part 0 n, e)
+
+-- for the search
+pub ruleset places_written = (nothing_left, no_place, next_place, penned_both, penned_none)

@@ -7,7 +7,7 @@ use lib.Ieee.{of_int, mul, div, neg, lt, eq, to_unsigned, of_bits}
 use lib.ListN.{length}
 use Rattle.walk.specs.Field.{byte_at, pair_at}
 use Rattle.walk.specs.Form.{most}
-use Rattle.value.specs.Block.{any_shows, sum_of, percents_of, shares_of, verdict_of}
+use Rattle.value.specs.Block.{percents_of, shares_of, block_of}
 use Rattle.value.specs.Read.{read_bcd, percent_of, read_share, read_signed, read_as}
 use Rattle.value.specs.Steps.{steps_of, size_of, count_of}
 use Rattle.value.specs.Write.{two, bcd_of}
@@ -103,7 +103,7 @@ write_lines =
 
 -- every definition on the way is unfolded, and the two sides are the same bytes
 pub sample_printed : values_output (read_fields ++ block_fields ++ write_fields) ≡ read_lines ++ block_lines ++ write_lines
-unfolding byte_at pair_at entry_of field_at form_from form_of word_of of_kind given_in fraction_text steps_text float_text refused_line shares_text lines_from lines_text values_output digits_of last_digit decimal_text hex_digit hex_text hexes_text read_bcd percent_of read_share read_signed read_as any_shows sum_of percents_of shares_of verdict_of two bcd_of steps_of size_of count_of of_int mul div neg lt eq to_unsigned of_bits
+unfolding byte_at pair_at entry_of field_at form_from form_of word_of of_kind given_in fraction_text steps_text float_text refused_line shares_text lines_from lines_text values_output digits_of last_digit decimal_text hex_digit hex_text hexes_text read_bcd percent_of read_share read_signed read_as percents_of shares_of block_of two bcd_of steps_of size_of count_of of_int mul div neg lt eq to_unsigned of_bits
 sample_printed = refl
 
 -- an unknown tag and a cut field: `refused 14 4`; a value to write of four bytes: `refused 14 0`

@@ -1,4 +1,5 @@
 -- Every field written in the tagged form is read as that field, whatever stands before and behind it. Assumes nothing.
+use Rattle.std.specs.Prelude.{Option, Some}
 use mathlib.Core.Path.{◌≡◌, refl, ap, ◌∙◌}
 use mathlib.Core.List.{List, [], ◌∷◌, ◌++◌}
 use Prim.Native.Nat.{ℕ, ◌+◌, ◌-◌, ◌*◌, ◌/◌}
@@ -23,7 +24,7 @@ unfolding byte_at
 byte_behind front l i j e = ap (λ (k : ℕ). get_or (front ++ l) k 0) e ∙ get_or-append-add front l i 0
 
 -- where a field with a value stands
-abbrev placed : Entry → ℕ → List ℕ → Placed
+abbrev placed : Option Entry → ℕ → List ℕ → Placed
 placed e at v = record { entry = e; from = at + 3; next = at + 3 + length v }
 
 module _ (front v rest : List ℕ) (tag : ℕ) where
@@ -60,7 +61,7 @@ module _ (front v rest : List ℕ) (tag : ℕ) where
         le-ltb (length whole - (at + 3)) (length v) (omega arith),
       )
 
-  value_read : (e : Entry) → value_at whole (placed e at v) ≡ v
+  value_read : (e : Option Entry) → value_at whole (placed e at v) ≡ v
   unfolding whole
   value_read e =
       let n : at + 3 + length v - (at + 3) ≡ length v = omega arith in
@@ -68,10 +69,10 @@ module _ (front v rest : List ℕ) (tag : ℕ) where
       rw (n, d) (take-append_seam v rest)
 
 -- what kind of field it is, and how long its value
-abbrev pub entry_for : Item → Entry
-entry_for (code t v) = Read t
-entry_for (block v) = Shares
-entry_for (value t kind a b c d) = Write t
+abbrev pub entry_for : Item → Option Entry
+entry_for (code t v) = Some (Read t)
+entry_for (block v) = Some Shares
+entry_for (value t kind a b c d) = Some (Write t)
 
 abbrev pub value_bytes : Item → List ℕ
 value_bytes (code t v) = v
@@ -97,9 +98,9 @@ tagged_read (value Data2c kind a b c d) front rest = placed_read front (kind ∷
 -- its value too
 value_behind : (i : Item) (front rest : List ℕ) → value_at (front ++ (item_bytes i ++ rest)) (placed_at i (length front)) ≡ value_bytes i
 unfolding whole
-value_behind (code t v) front rest = value_read front v rest (code_tag t) (Read t)
-value_behind (block v) front rest = value_read front v rest 0x05 Shares
-value_behind (value t kind a b c d) front rest = value_read front (kind ∷ a ∷ b ∷ c ∷ d ∷ []) rest (value_tag t) (Write t)
+value_behind (code t v) front rest = value_read front v rest (code_tag t) (Some (Read t))
+value_behind (block v) front rest = value_read front v rest 0x05 (Some Shares)
+value_behind (value t kind a b c d) front rest = value_read front (kind ∷ a ∷ b ∷ c ∷ d ∷ []) rest (value_tag t) (Some (Write t))
 
 entry_line_lem : (i : Item) → entry_line (entry_for i) (value_bytes i) ≡ item_line i
 unfolding given_in byte_at

@@ -1,8 +1,8 @@
 -- A float that is a number of 1/256 steps, as a decimal: exactly, and as short as it can be (02, E2). Assumes nothing.
-use Rattle.std.specs.Prelude.{cond, List, [], ◌∷◌, ◌++◌, ℕ, zero, suc, ◌*◌, ◌/◌, ◌%◌, eqb, Float}
+use Rattle.std.specs.Prelude.{cond, List, [], ◌∷◌, ◌++◌, ℕ, zero, suc, ◌*◌, ◌/◌, ◌%◌, eqb, Float, Option, Some, None}
 use Rattle.value.specs.Steps.{per, count_of}
 use Rattle.value.specs.declared.steps.Count.{Count}
-use Rattle.value.specs.declared.steps.Count.TheVariants.{Up, Down, Uneven}
+use Rattle.value.specs.declared.steps.Count.TheVariants.{Up, Down}
 use Rattle.scenario.specs.Pen.{decimal_text}
 
 -- the digits behind the point: times ten, the whole part, and the same of what is left, until nothing is; k digits at most
@@ -24,10 +24,10 @@ unfoldable pub steps_text : ℕ → List ℕ
 steps_text n =
     cond (eqb (n % 256) 0) (decimal_text (n / 256)) (decimal_text (n / 256) ++ point ++ fraction_text 8 (n % 256))
 
-abbrev pub count_text : Count → List ℕ
-count_text (Up n) = steps_text n
-count_text (Down n) = minus ++ steps_text n
-count_text Uneven = []
+abbrev pub count_text : Option Count → List ℕ
+count_text (Some (Up n)) = steps_text n
+count_text (Some (Down n)) = minus ++ steps_text n
+count_text None = []
 
 -- a float that is no such number has no text: none is ever read
 unfoldable pub float_text : Float → List ℕ

@@ -1,6 +1,7 @@
 -- The lines of a sheet's fields, as many at a time as a lent buffer has room for. Assumes nothing.
 use Rattle.std.specs.Prelude.{◌≡◌, cond, List, [], ◌++◌, ℕ, zero, suc, ◌-◌, ◌≤◌, ◌<◌, ltb, length, take}
-use Rattle.scenario.specs.Pen.{Pen, pen, penned, room}
+use Rattle.scenario.specs.declared.pen.Pen.{Pen}
+use Rattle.scenario.specs.Pen.{pen, penned, room}
 use Rattle.sheet.specs.Field.{field_at}
 use Rattle.sheet.specs.Lines.{line_at}
 

@@ -6,5 +6,6 @@ pub mod Given
 pub mod Lines
 pub mod Output
 pub mod ReadNumber
+pub mod Series
 pub mod Tagged
 pub mod Writes

@@ -1,27 +1,21 @@
 -- The line of a field (02, E2): what was read, the shares of a block, the code that was written, or what refused it.
 -- Assumes nothing.
-use Rattle.std.specs.Prelude.{List, [], ◌∷◌, ◌++◌, ℕ, Float}
-use Rattle.value.specs.Answers.{reading_number, code_number, code_bytes, verdict_number, block_percents}
+use Rattle.std.specs.Prelude.{List, [], ◌∷◌, ◌++◌, ℕ, Float, Option, Some, None, Result, Ok, Err}
+use Rattle.value.specs.Answers.{reading_number, code_number, code_bytes, fault_number, block_percents}
 use Rattle.value.specs.Block.{block_of}
 use Rattle.value.specs.Read.{read_as}
 use Rattle.value.specs.Write.{write_as}
-use Rattle.value.specs.declared.block.Block.{Block}
-use Rattle.value.specs.declared.block.Verdict.{Verdict}
-use Rattle.value.specs.declared.block.Verdict.TheVariants.{Accepted, NoBlock, ShareMissing, NotAHundred}
-use Rattle.value.specs.declared.read.Reading.{Reading}
-use Rattle.value.specs.declared.read.Reading.TheVariants.{Of, NoValue}
+use Rattle.value.specs.declared.block.BlockError.{BlockError}
+use Rattle.value.specs.declared.block.Shares.{Shares as BlockShares}
 use Rattle.value.specs.declared.value.DataType.{DataType}
 use Rattle.value.specs.declared.value.Value.{Value}
 use Rattle.value.specs.declared.value.Value.TheVariants.{Whole, Percent, Temperature, Missing}
 use Rattle.value.specs.declared.write.Code.{Code}
-use Rattle.value.specs.declared.write.Code.TheVariants.{One, Two, NoCode}
 use Rattle.scenario.specs.Lines.{newline, hexes_text, refused_text}
 use Rattle.scenario.specs.Pen.{decimal_text}
 use Rattle.sheet.specs.declared.field.Entry.{Entry}
-use Rattle.sheet.specs.declared.field.Entry.TheVariants.{Read, Shares, Write, Bad}
+use Rattle.sheet.specs.declared.field.Entry.TheVariants.{Read, Shares, Write}
 use Rattle.sheet.specs.declared.field.Placed.{Placed}
-use Rattle.sheet.specs.declared.given.Given.{Given}
-use Rattle.sheet.specs.declared.given.Given.TheVariants.{Known, NoKind}
 use Rattle.sheet.specs.Decimal.{float_text}
 use Rattle.sheet.specs.Field.{value_at}
 use Rattle.sheet.specs.Given.{given_in}
@@ -56,9 +50,9 @@ value_text (Percent x) = percent_word ++ float_text x
 value_text (Temperature x) = temperature_word ++ float_text x
 value_text Missing = missing_word
 
-abbrev pub reading_line : Reading → List ℕ
-reading_line (Of v) = value_text v ++ newline
-reading_line NoValue = refused_line (reading_number NoValue)
+abbrev pub reading_line : Option Value → List ℕ
+reading_line (Some v) = value_text v ++ newline
+reading_line None = refused_line (reading_number None)
 
 -- in percent, each with a blank before it
 unfoldable pub shares_text : List Float → List ℕ
@@ -66,32 +60,29 @@ shares_text [] = []
 shares_text (x ∷ xs) = 32 ∷ float_text x ++ shares_text xs
 
 -- `shares 50 50`
-abbrev pub verdict_line : Verdict → List Float → List ℕ
-verdict_line Accepted xs = shares_word ++ shares_text xs ++ newline
-verdict_line NoBlock xs = refused_line (verdict_number NoBlock)
-verdict_line ShareMissing xs = refused_line (verdict_number ShareMissing)
-verdict_line NotAHundred xs = refused_line (verdict_number NotAHundred)
-
-abbrev pub block_line : Block → List ℕ
-block_line b = verdict_line b.verdict (block_percents b)
+abbrev pub block_line : Result BlockShares BlockError → List ℕ
+block_line (Ok s) = shares_word ++ shares_text (block_percents (Ok s)) ++ newline
+block_line (Err e) = refused_line (fault_number e)
 
 -- `code 47`, `code 80 FF`
-abbrev pub code_line : Code → List ℕ
-code_line (One b) = code_word ++ hexes_text (code_bytes (One b)) ++ newline
-code_line (Two low high) = code_word ++ hexes_text (code_bytes (Two low high)) ++ newline
-code_line NoCode = refused_line (code_number NoCode)
+abbrev pub code_text : Code → List ℕ
+code_text c = code_word ++ hexes_text (code_bytes (Some c))
+
+abbrev pub code_line : Option Code → List ℕ
+code_line (Some c) = code_text c ++ newline
+code_line None = refused_line (code_number None)
 
 -- a kind above 3 is refused as a value without a code is
-abbrev pub written_line : DataType → Given → List ℕ
-written_line t (Known v) = code_line (write_as t v)
-written_line t NoKind = refused_line (code_number NoCode)
+abbrev pub written_line : DataType → Option Value → List ℕ
+written_line t (Some v) = code_line (write_as t v)
+written_line t None = refused_line (code_number None)
 
 -- of a field and its value; a field that is none has no line, and its sheet is refused
-abbrev pub entry_line : Entry → List ℕ → List ℕ
-entry_line (Read t) v = reading_line (read_as t v)
-entry_line Shares v = block_line (block_of v)
-entry_line (Write t) v = written_line t (given_in v)
-entry_line Bad v = []
+abbrev pub entry_line : Option Entry → List ℕ → List ℕ
+entry_line (Some (Read t)) v = reading_line (read_as t v)
+entry_line (Some Shares) v = block_line (block_of v)
+entry_line (Some (Write t)) v = written_line t (given_in v)
+entry_line None v = []
 
 abbrev pub line_at : List ℕ → Placed → List ℕ
 line_at s p = entry_line p.entry (value_at s p)

@@ -1,7 +1,8 @@
 -- The whole output of `values` as a function of its sheet, by lists alone (02, E2). Assumes nothing.
 use Rattle.std.specs.Prelude.{cond, List, [], ◌++◌, ℕ, zero, suc, ltb, length}
-use Rattle.walk.specs.declared.form.Form.{Form}
-use Rattle.walk.specs.declared.form.Form.TheVariants.{Good, BadField, TooLong}
+use Rattle.std.specs.Prelude.{Result, ⊤, Ok, Err}
+use Rattle.walk.specs.declared.form.FormError.{FormError}
+use Rattle.walk.specs.declared.form.FormError.TheVariants.{BadField, TooLong}
 use Rattle.scenario.specs.Lines.{form_text}
 use Rattle.sheet.specs.Field.{field_at}
 use Rattle.sheet.specs.Form.{form_of}
@@ -20,10 +21,10 @@ unfoldable pub lines_text : List ℕ → List ℕ
 lines_text s = lines_from (length s) s 0
 
 -- the line of a bad form alone; else the lines of all fields
-abbrev pub output_of : Form → List ℕ → List ℕ
-output_of Good s = lines_text s
-output_of (BadField at) s = form_text (BadField at)
-output_of TooLong s = form_text TooLong
+abbrev pub output_of : Result ⊤ FormError → List ℕ → List ℕ
+output_of (Ok tt) s = lines_text s
+output_of (Err (BadField at)) s = form_text (Err (BadField at))
+output_of (Err TooLong) s = form_text (Err TooLong)
 
 unfoldable pub values_output : List ℕ → List ℕ
 values_output s = output_of (form_of s) s

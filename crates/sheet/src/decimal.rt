@@ -1,10 +1,9 @@
 // A float that is a number of 1/256 steps, as a decimal: exactly, and as short as it can be.
 ghost use Rattle.std.specs.Prelude.{◌≡◌, ◌<◌};
-ghost use Rattle.scenario.specs.Pen.{pen, penned};
+ghost use Rattle.scenario.specs.Pen.{penned};
 ghost use Rattle.sheet.specs.Decimal.{fraction_text, steps_text, float_text};
 
-use scenario::pen;
-use scenario::pen::ROOM;
+use scenario::pen::Pen;
 use value::steps;
 use value::steps::Count;
 
@@ -12,48 +11,43 @@ use value::steps::Count;
 const PLACES: usize = 8;
 
 // The digits behind the point: times ten, the whole part, and the same of what is left, until nothing is.
-fn fraction(out: &mut [u8; ROOM], at: usize, part: u32) -> usize
+#[tactic(auto, using(crate::proofs::Places::places_written))]
+fn fraction(out: &mut Pen, part: u32)
     requires { part < 256 }
-    ensures { pen out.new result ≡ penned (pen out.old at) (fraction_text 8 part) }
+    ensures { out.new ≡ penned out.old (fraction_text 8 part) }
 {
-    let mut to = at;
     let mut left = part;
-    let mut places = PLACES;
-    while 0 < places {
+    for _ in 0..PLACES {
         if left == 0 {
-            return to;
+            return;
         }
-        to = pen::decimal(out, to, left * 10 / 256);
+        out.decimal(left * 10 / 256);
         left = left * 10 % 256;
-        places -= 1;
     }
-    to
 }
 
 // So many 256ths.
-fn steps_text(out: &mut [u8; ROOM], at: usize, n: u32) -> usize
-    ensures { pen out.new result ≡ penned (pen out.old at) (steps_text n) }
+#[tactic(auto, using(scenario::proofs::Written::penned_both), unfolding(crate::specs::Decimal::steps_text))]
+fn steps_text(out: &mut Pen, n: u32)
+    ensures { out.new ≡ penned out.old (steps_text n) }
 {
-    let to = pen::decimal(out, at, n / 256);
-    if n % 256 == 0 {
-        to
-    } else {
-        let mid = pen::word(out, to, b".");
-        fraction(out, mid, n % 256)
+    out.decimal(n / 256);
+    if n % 256 != 0 {
+        out.word(b".");
+        fraction(out, n % 256);
     }
 }
 
 // A float that is no such number has no text: none is ever read.
-pub fn float(out: &mut [u8; ROOM], at: usize, x: f32) -> usize
-    ensures { pen out.new result ≡ penned (pen out.old at) (float_text x) }
+pub fn float(out: &mut Pen, x: f32)
+    ensures { out.new ≡ penned out.old (float_text x) }
 {
-    let k = steps::count_of(x, 256.0);
-    match k {
-        Count::Up(n) => steps_text(out, at, n),
-        Count::Down(n) => {
-            let to = pen::word(out, at, b"-");
-            steps_text(out, to, n)
+    match steps::count_of(x, 256.0) {
+        Some(Count::Up(n)) => steps_text(out, n),
+        Some(Count::Down(n)) => {
+            out.word(b"-");
+            steps_text(out, n);
         }
-        Count::Uneven => at,
+        None => {}
     }
 }

@@ -1,7 +1,7 @@
 // One field of a sheet: one-byte tag, two-byte length (high byte first), value.
 ghost use Rattle.std.specs.Prelude.{◌≡◌};
 ghost use Rattle.walk.specs.Field.{pair_at};
-ghost use Rattle.sheet.specs.Field.{to_write, entry_of, no_field, field_at, is_bad};
+ghost use Rattle.sheet.specs.Field.{to_write, entry_of, no_field, field_at};
 
 use value::value::DataType;
 
@@ -13,51 +13,46 @@ pub enum Entry {
     Shares,
     // 11 to 14: a value to write as that type.
     Write(DataType),
-    // An unknown tag, a wrong length or a cut field.
-    Bad,
 }
 
-// A field, where its value begins, and where the next field begins.
+// A field, where its value begins, and where the next field begins. No entry: an unknown tag, a wrong length or a cut field.
 #[derive(Clone, Copy)]
 pub struct Placed {
-    pub entry: Entry,
+    pub entry: Option<Entry>,
     pub from: usize,
     pub next: usize,
 }
 
-// Two bytes as a number, high byte first.
+// Two bytes as a number, high byte first; walk's is private and 32 bits wide, and one line is no longer than a call of it.
+#[tactic(auto, unfolding(walk::specs::Field::pair_at))]
 fn pair(high: u8, low: u8) -> usize
     ensures { result ≡ pair_at high low }
 {
-    (high as usize) * 256 + (low as usize)
+    usize::from(u16::from_be_bytes([high, low]))
 }
 
 // A value to write has five bytes.
-fn to_write(t: DataType, len: usize) -> Entry
+fn to_write(t: DataType, len: usize) -> Option<Entry>
     ensures { result ≡ to_write t len }
 {
-    if len == 5 {
-        Entry::Write(t)
-    } else {
-        Entry::Bad
-    }
+    (len == 5).then_some(Entry::Write(t))
 }
 
 #[tactic(auto, unfolding(crate::specs::Field::entry_of))]
-fn entry_of(tag: u8, len: usize) -> Entry
+fn entry_of(tag: u8, len: usize) -> Option<Entry>
     ensures { result ≡ entry_of tag len }
 {
     match tag {
-        0x01 => Entry::Read(DataType::Bcd),
-        0x02 => Entry::Read(DataType::Data1c),
-        0x03 => Entry::Read(DataType::Data2b),
-        0x04 => Entry::Read(DataType::Data2c),
-        0x05 => Entry::Shares,
+        0x01 => Some(Entry::Read(DataType::Bcd)),
+        0x02 => Some(Entry::Read(DataType::Data1c)),
+        0x03 => Some(Entry::Read(DataType::Data2b)),
+        0x04 => Some(Entry::Read(DataType::Data2c)),
+        0x05 => Some(Entry::Shares),
         0x11 => to_write(DataType::Bcd, len),
         0x12 => to_write(DataType::Data1c, len),
         0x13 => to_write(DataType::Data2b, len),
         0x14 => to_write(DataType::Data2c, len),
-        _ => Entry::Bad,
+        _ => None,
     }
 }
 
@@ -66,45 +61,29 @@ fn no_field(length: usize) -> Placed
     ensures { result ≡ no_field length }
 {
     Placed {
-        entry: Entry::Bad,
+        entry: None,
         from: length,
         next: length,
     }
 }
 
-// The field that begins at a place.
+// The field that begins at a place. Beside walk's: what a tag says, where a value lies and what follows a cut field all differ.
+#[tactic(auto, unfolding(crate::specs::Field::field_at))]
 pub fn field_at(s: &[u8], at: usize) -> Placed
     ensures { result ≡ field_at s.now at }
 {
     let n = s.len();
-    if n < 3 {
-        no_field(n)
-    } else if n - 3 < at {
-        no_field(n)
-    } else {
-        let len = pair(s[at + 1], s[at + 2]);
-        let from = at + 3;
-        if n - from < len {
-            no_field(n)
-        } else {
-            Placed {
-                entry: entry_of(s[at], len),
-                from: from,
-                next: from + len,
-            }
-        }
+    if n < 3 || n - 3 < at {
+        return no_field(n);
     }
-}
-
-impl Entry {
-    pub fn is_bad(self) -> bool
-        ensures { result ≡ is_bad self }
-    {
-        match self {
-            Entry::Read(_) => false,
-            Entry::Shares => false,
-            Entry::Write(_) => false,
-            Entry::Bad => true,
-        }
+    let len = pair(s[at + 1], s[at + 2]);
+    let from = at + 3;
+    if n - from < len {
+        return no_field(n);
+    }
+    Placed {
+        entry: entry_of(s[at], len),
+        from,
+        next: from + len,
     }
 }

@@ -1,43 +1,51 @@
 // The lines of a sheet's fields, as many at a time as a lent buffer has room for.
 ghost use Rattle.std.specs.Prelude.{◌≡◌};
-ghost use Rattle.scenario.specs.Pen.{pen};
 ghost use Rattle.sheet.specs.Fill.{filling, filled};
+ghost use Rattle.sheet.specs.Series.{PrintsAll, is_over, fills_to_come, over_prints_nothing};
 
 use crate::{field, lines};
-use scenario::pen::ROOM;
+use scenario::pen::{Pen, ROOM};
+use scenario::series::Fills;
 
 // No line is longer: eight shares, each with its blank, sign, ten digits, point and eight digits.
 pub const LINE: usize = 175;
 
-// The place of the next field, and how many bytes of the buffer a fill took.
+// How far a sheet is printed: the next field's place.
 #[derive(Clone, Copy)]
-pub struct Filled {
+pub struct Fields {
     pub next: usize,
-    pub used: usize,
 }
 
-// One fill of a buffer: field after field from a place on, while a whole line still fits.
-pub fn fill(s: &[u8], at: usize, out: &mut [u8; ROOM]) -> Filled
-    ensures { filling result.next (pen out.new result.used) ≡ filled s.now at out.old }
-{
-    let mut next = at;
-    let mut used: usize = 0;
-    while next < s.len() {
-        if ROOM - LINE < used {
-            return Filled {
-                next: next,
-                used: used,
-            };
+impl Fields {
+    // One fill of a buffer, from its start: field after field while a whole line still fits. Of diary's five lines two differ.
+    #[tactic(auto, using(crate::proofs::Filling::field_filled))]
+    pub fn fill(&mut self, s: &[u8], out: &mut Pen)
+        ensures { filling self.new.next out.new ≡ filled s.now self.old.next out.old.page }
+    {
+        out.rewind();
+        // Not a range: each field says where the next one begins.
+        while self.next < s.len() && out.at <= ROOM - LINE {
+            let field = field::field_at(s, self.next);
+            lines::entry_line(out, field.entry, &s[field.from..field.next]);
+            self.next = field.next;
         }
-        let p = field::field_at(s, next);
-        let e = p.entry;
-        let from = p.from;
-        let to = p.next;
-        used = lines::entry_line(out, used, e, &s[from..to]);
-        next = to;
     }
-    Filled {
-        next: next,
-        used: used,
+}
+
+impl Fills for Fields {
+    ghost Prints = { PrintsAll };
+
+    ghost is_over = { is_over };
+
+    ghost left = { fills_to_come };
+
+    fn is_over(&self, s: &[u8]) -> bool {
+        s.len() <= self.next
     }
+
+    fn next(&mut self, s: &[u8], out: &mut Pen) {
+        self.fill(s, out);
+    }
+
+    ghost ends = { over_prints_nothing };
 }

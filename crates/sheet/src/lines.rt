@@ -1,127 +1,123 @@
 // The line of a field: what was read, the shares of a block, the code that was written, or what refused it.
-ghost use Rattle.std.specs.Prelude.{◌≡◌, take};
-ghost use Rattle.scenario.specs.Pen.{pen, penned};
-ghost use Rattle.sheet.specs.Lines.{refused_line, value_text, reading_line, shares_text, block_line, code_line, written_line, entry_line};
+#![tactic(auto, using(scenario::proofs::Written::penned_both, scenario::proofs::Written::penned_none))]
+
+ghost use Rattle.std.specs.Prelude.{◌≡◌};
+ghost use Rattle.scenario.specs.Pen.{penned};
+ghost use Rattle.sheet.specs.Lines.{refused_line, value_text, reading_line, shares_text, block_line, code_text, code_line, written_line, entry_line};
 
 use crate::field::Entry;
-use crate::given::Given;
 use crate::{decimal, given};
-use scenario::pen;
-use scenario::pen::ROOM;
-use value::block::{Block, Shares, Verdict};
-use value::read::Reading;
+use scenario::pen::Pen;
+use value::block::{BlockError, Shares};
 use value::value::{DataType, Value};
 use value::write::Code;
 
-fn refused(out: &mut [u8; ROOM], at: usize, number: u32) -> usize
-    ensures { pen out.new result ≡ penned (pen out.old at) (refused_line number) }
+// No value has the code, or no code the value: reading and writing answer an Option, so the number stands here, once.
+const NO_CODE: u32 = 17;
+
+fn refused(out: &mut Pen, number: u32)
+    ensures { out.new ≡ penned out.old (refused_line number) }
 {
-    let to = pen::word(out, at, b"refused ");
-    let end = pen::decimal(out, to, number);
-    pen::word(out, end, b"\n")
+    out.word(b"refused ");
+    out.decimal(number);
+    out.word(b"\n");
 }
 
-fn value_text(out: &mut [u8; ROOM], at: usize, v: Value) -> usize
-    ensures { pen out.new result ≡ penned (pen out.old at) (value_text v) }
+fn value_text(out: &mut Pen, v: Value)
+    ensures { out.new ≡ penned out.old (value_text v) }
 {
     match v {
         Value::Whole(n) => {
-            let to = pen::word(out, at, b"whole ");
-            pen::decimal(out, to, n)
+            out.word(b"whole ");
+            out.decimal(n);
         }
         Value::Percent(x) => {
-            let to = pen::word(out, at, b"percent ");
-            decimal::float(out, to, x)
+            out.word(b"percent ");
+            decimal::float(out, x);
         }
         Value::Temperature(x) => {
-            let to = pen::word(out, at, b"temperature ");
-            decimal::float(out, to, x)
+            out.word(b"temperature ");
+            decimal::float(out, x);
         }
-        Value::Missing => pen::word(out, at, b"missing"),
+        Value::Missing => out.word(b"missing"),
     }
 }
 
-fn reading_line(out: &mut [u8; ROOM], at: usize, r: Reading) -> usize
-    ensures { pen out.new result ≡ penned (pen out.old at) (reading_line r) }
+fn reading_line(out: &mut Pen, r: Option<Value>)
+    ensures { out.new ≡ penned out.old (reading_line r) }
 {
     match r {
-        Reading::Of(v) => {
-            let end = value_text(out, at, v);
-            pen::word(out, end, b"\n")
+        Some(v) => {
+            value_text(out, v);
+            out.word(b"\n");
         }
-        Reading::NoValue => refused(out, at, 17),
+        None => refused(out, NO_CODE),
     }
 }
 
 // Each share with a blank before it.
-fn shares(out: &mut [u8; ROOM], at: usize, s: Shares) -> usize
-    ensures { pen out.new result ≡ penned (pen out.old at) (shares_text (take s.count s.percents)) }
+fn shares(out: &mut Pen, percents: &[f32])
+    ensures { out.new ≡ penned out.old (shares_text percents.now) }
 {
-    let percents = s.percents;
-    let n = laws::at_most(s.count, Shares::MOST);
-    let mut to = at;
-    let mut i: usize = 0;
-    while i < n {
-        let mid = pen::word(out, to, b" ");
-        to = decimal::float(out, mid, percents[i]);
-        i += 1;
+    for &x in percents {
+        out.word(b" ");
+        decimal::float(out, x);
     }
-    to
 }
 
-fn block_line(out: &mut [u8; ROOM], at: usize, b: Block) -> usize
-    ensures { pen out.new result ≡ penned (pen out.old at) (block_line b) }
+fn block_line(out: &mut Pen, b: Result<Shares, BlockError>)
+    ensures { out.new ≡ penned out.old (block_line b) }
 {
-    let v = b.verdict;
-    let s = b.shares;
-    match v {
-        Verdict::Accepted => {
-            let to = pen::word(out, at, b"shares");
-            let end = shares(out, to, s);
-            pen::word(out, end, b"\n")
+    match b {
+        Ok(s) => {
+            out.word(b"shares");
+            shares(out, s.percents());
+            out.word(b"\n");
         }
-        Verdict::NoBlock => refused(out, at, 17),
-        Verdict::ShareMissing => refused(out, at, 18),
-        Verdict::NotAHundred => refused(out, at, 19),
+        Err(e) => refused(out, e.number()),
     }
 }
 
-fn code_line(out: &mut [u8; ROOM], at: usize, c: Code) -> usize
-    ensures { pen out.new result ≡ penned (pen out.old at) (code_line c) }
+fn code_text(out: &mut Pen, c: Code)
+    ensures { out.new ≡ penned out.old (code_text c) }
+{
+    out.word(b"code");
+    match c {
+        Code::One(b) => out.hex(b),
+        Code::Two(low, high) => {
+            out.hex(low);
+            out.hex(high);
+        }
+    }
+}
+
+fn code_line(out: &mut Pen, c: Option<Code>)
+    ensures { out.new ≡ penned out.old (code_line c) }
 {
     match c {
-        Code::One(b) => {
-            let to = pen::word(out, at, b"code");
-            let end = pen::hex(out, to, b);
-            pen::word(out, end, b"\n")
+        Some(code) => {
+            code_text(out, code);
+            out.word(b"\n");
         }
-        Code::Two(low, high) => {
-            let to = pen::word(out, at, b"code");
-            let mid = pen::hex(out, to, low);
-            let end = pen::hex(out, mid, high);
-            pen::word(out, end, b"\n")
-        }
-        Code::NoCode => refused(out, at, 17),
+        None => refused(out, NO_CODE),
     }
 }
 
-fn written_line(out: &mut [u8; ROOM], at: usize, t: DataType, g: Given) -> usize
-    ensures { pen out.new result ≡ penned (pen out.old at) (written_line t g) }
+// A kind that is none is refused as a value without a code is.
+fn written_line(out: &mut Pen, t: DataType, given: Option<Value>)
+    ensures { out.new ≡ penned out.old (written_line t given) }
 {
-    match g {
-        Given::Known(v) => code_line(out, at, value::write::write(t, v)),
-        Given::NoKind => refused(out, at, 17),
-    }
+    code_line(out, given.and_then(|v| value::write::write(t, v)));
 }
 
 // A field that is none has no line: its sheet is refused.
-pub fn entry_line(out: &mut [u8; ROOM], at: usize, e: Entry, bytes: &[u8]) -> usize
-    ensures { pen out.new result ≡ penned (pen out.old at) (entry_line e bytes.now) }
+pub fn entry_line(out: &mut Pen, e: Option<Entry>, bytes: &[u8])
+    ensures { out.new ≡ penned out.old (entry_line e bytes.now) }
 {
     match e {
-        Entry::Read(t) => reading_line(out, at, value::read::read(t, bytes)),
-        Entry::Shares => block_line(out, at, value::block::accept(bytes)),
-        Entry::Write(t) => written_line(out, at, t, given::given_in(bytes)),
-        Entry::Bad => at,
+        Some(Entry::Read(t)) => reading_line(out, value::read::read(t, bytes)),
+        Some(Entry::Shares) => block_line(out, value::block::accept(bytes)),
+        Some(Entry::Write(t)) => written_line(out, t, given::given_in(bytes)),
+        None => {}
     }
 }

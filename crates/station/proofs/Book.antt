@@ -14,11 +14,10 @@ use Rattle.wire.specs.Form.{bytes_of}
 use Rattle.wire.specs.declared.part.Load.{Load}
 use Rattle.station.specs.declared.replies.Reply.{Reply}
 use Rattle.station.specs.declared.replies.ReplyBook.{ReplyBook}
-use Rattle.station.specs.declared.replies.Written.{Written}
+use Rattle.station.specs.Replies.{Written}
 use Rattle.laws.specs.First.{first_from}
 use Rattle.laws.proofs.AtMost.{at_most_same}
-use Rattle.laws.specs.declared.Found.{Found}
-use Rattle.laws.specs.declared.Found.TheVariants.{At, Missing}
+use Rattle.std.specs.Prelude.{Option, Some, None}
 use Rattle.station.specs.Replies.{reply_entries, no_reply, no_entries, is_for, count_in, entry_of, entry_at, with_entry, added, written_at, written, load_at, answer_for}
 
 -- an array of 8, and at most 8 entries
@@ -36,19 +35,19 @@ module _ (pb sb : ℕ) where
     here : {e : Reply} {es : List Reply} → is_for e pb sb ≡ true → First (e ∷ es) zero
     later : {e : Reply} {es : List Reply} {j : ℕ} → is_for e pb sb ≡ false → First es j → First (e ∷ es) (suc j)
 
-  data None : List Reply → Type 0 where
-    none : None []
-    past : {e : Reply} {es : List Reply} → is_for e pb sb ≡ false → None es → None (e ∷ es)
+  data NoneSuch : List Reply → Type 0 where
+    none : NoneSuch []
+    past : {e : Reply} {es : List Reply} → is_for e pb sb ≡ false → NoneSuch es → NoneSuch (e ∷ es)
 
-  data Searched (k : ℕ) (es : List Reply) : Found → Type 0 where
-    found : {i j : ℕ} → i ≡ k + j → First es j → Searched k es (At i)
-    missed : None es → Searched k es Missing
+  data Searched (k : ℕ) (es : List Reply) : Option ℕ → Type 0 where
+    found : {i j : ℕ} → i ≡ k + j → First es j → Searched k es (Some i)
+    missed : NoneSuch es → Searched k es None
 
   load_in : List Reply → Load
   load_in [] = no_reply.load
   load_in (e ∷ es) = cond (is_for e pb sb) e.load (load_in es)
 
-  passing : (k : ℕ) (e : Reply) (es : List Reply) (n : Found) → is_for e pb sb ≡ false → Searched (suc k) es n → Searched k (e ∷ es) n
+  passing : (k : ℕ) (e : Reply) (es : List Reply) (n : Option ℕ) → is_for e pb sb ≡ false → Searched (suc k) es n → Searched k (e ∷ es) n
   passing k e es n f (found {j = j} i w) = found {j = suc j} (i ∙ omega arith) (later f w)
   passing k e es n f (missed w) = missed (past f w)
 
@@ -58,7 +57,7 @@ module _ (pb sb : ℕ) where
   search_in k (e ∷ es) = by_test (is_for e pb sb) refl (search_in (suc k) es)
     where
       by_test : (t : Bool) → is_for e pb sb ≡ t → Searched (suc k) es (first_from (λ e. is_for e pb sb) (suc k) es)
-          → Searched k (e ∷ es) (cond t (At k) (first_from (λ e. is_for e pb sb) (suc k) es))
+          → Searched k (e ∷ es) (cond t (Some k) (first_from (λ e. is_for e pb sb) (suc k) es))
       by_test true f w = found {i = k} {j = zero} (omega arith) (here f)
       by_test false f w = passing k e es (first_from (λ e. is_for e pb sb) (suc k) es) f w
 
@@ -71,7 +70,7 @@ module _ (pb sb : ℕ) where
   first_load (here f) = rw f
   first_load (later f w) = rw f (first_load w)
 
-  none_load : {es : List Reply} → None es → load_in es ≡ no_reply.load
+  none_load : {es : List Reply} → NoneSuch es → load_in es ≡ no_reply.load
   unfolding load_in
   none_load none = refl
   none_load (past f w) = rw f (none_load w)
@@ -82,7 +81,7 @@ module _ (pb sb : ℕ) where
     set_same t (here f) = rw t
     set_same t (later f w) = rw f (set_same t w)
 
-    append_same : {es : List Reply} → is_for r pb sb ≡ true → None es → load_in (es ++ (r ∷ [])) ≡ r.load
+    append_same : {es : List Reply} → is_for r pb sb ≡ true → NoneSuch es → load_in (es ++ (r ∷ [])) ≡ r.load
     unfolding load_in
     append_same t none = rw t
     append_same t (past f w) = rw f (append_same t w)
@@ -117,11 +116,11 @@ set_other r pb sb pb' sb' t n (later {e} f w) =
     ap (λ (l : Load). cond (is_for e pb' sb') e.load l) (set_other r pb sb pb' sb' t n w)
 
 -- how a reply is written: in the place of the entry for its PB and SB, behind the others, or, with 8 entries and none for it, not at all
-data Writes (b : ReplyBook) (r : Reply) : Found → Written → Type 0 where
-  replaced : {j : ℕ} → First r.pb r.sb (entered b) j → Writes b r (At j) (record { taken = true; book = with_entry b j r })
-  appended : None r.pb r.sb (entered b) → b.held < reply_entries
-      → Writes b r Missing (record { taken = true; book = record { entries = set b.entries b.held r; held = b.held + 1 } })
-  refused : b.held ≡ reply_entries → Writes b r Missing (record { taken = false; book = b })
+data Writes (b : ReplyBook) (r : Reply) : Option ℕ → Written → Type 0 where
+  replaced : {j : ℕ} → First r.pb r.sb (entered b) j → Writes b r (Some j) (record { taken = true; book = with_entry b j r })
+  appended : NoneSuch r.pb r.sb (entered b) → b.held < reply_entries
+      → Writes b r None (record { taken = true; book = record { entries = set b.entries b.held r; held = b.held + 1 } })
+  refused : b.held ≡ reply_entries → Writes b r None (record { taken = false; book = b })
 
 module _ (b : ReplyBook) (k : Filed b) where
   counted : count_in b ≡ b.held
@@ -139,7 +138,7 @@ module _ (b : ReplyBook) (k : Filed b) where
   unfolding answer_for entry_at
   answer_in pb sb = by_entry (searched pb sb)
     where
-      by_entry : {n : Found} → Searched pb sb 0 (entered b) n → load_at n b ≡ load_in pb sb (entered b)
+      by_entry : {n : Option ℕ} → Searched pb sb 0 (entered b) n → load_at n b ≡ load_in pb sb (entered b)
       by_entry (found {i} {j} e w) =
           let p : i ≡ j = omega arith in
           let h : j < b.held = omega (arith, first_within pb sb w, entered_length) in
@@ -150,17 +149,17 @@ module _ (b : ReplyBook) (k : Filed b) where
   unfolding written added
   writes r = by_entry (searched r.pb r.sb)
     where
-      by_room : (t : Bool) → ltb b.held reply_entries ≡ t → None r.pb r.sb (entered b)
-          → Writes b r Missing (cond t (record { taken = true; book = record { entries = set b.entries b.held r; held = b.held + 1 } })
+      by_room : (t : Bool) → ltb b.held reply_entries ≡ t → NoneSuch r.pb r.sb (entered b)
+          → Writes b r None (cond t (record { taken = true; book = record { entries = set b.entries b.held r; held = b.held + 1 } })
           (record { taken = false; book = b }))
       by_room true e w = appended w (ltb-true b.held reply_entries e)
       by_room false e w = refused (omega (arith, ltb-false b.held reply_entries e, k.room))
 
-      by_entry : {n : Found} → Searched r.pb r.sb 0 (entered b) n → Writes b r n (written_at n b r)
+      by_entry : {n : Option ℕ} → Searched r.pb r.sb 0 (entered b) n → Writes b r n (written_at n b r)
       by_entry (found {i} {j} e w) = let p : i ≡ j = omega arith in rw p (replaced w)
       by_entry (missed w) = by_room (ltb b.held reply_entries) refl w
 
-  filed_row : {r : Reply} {n : Found} {w : Written} → Writes b r n w → Filed w.book
+  filed_row : {r : Reply} {n : Option ℕ} {w : Written} → Writes b r n w → Filed w.book
   unfolding with_entry
   filed_row {r} (replaced {j} _) = record { array = length-set b.entries j r ∙ k.array; room = k.room }
   filed_row {r} (appended _ h) = record { array = length-set b.entries b.held r ∙ k.array; room = omega (arith, h) }
@@ -175,24 +174,24 @@ module _ (b : ReplyBook) (k : Filed b) where
   appended_entered : (r : Reply) → b.held < reply_entries → take (b.held + 1) (set b.entries b.held r) ≡ entered b ++ (r ∷ [])
   appended_entered r h = rw (add-one, take-suc-set b.entries b.held r (omega (arith, k.array)))
 
-  own_row : {r : Reply} {n : Found} {w : Written} → Writes b r n w → w.taken ≡ true → load_in r.pb r.sb (entered w.book) ≡ r.load
+  own_row : {r : Reply} {n : Option ℕ} {w : Written} → Writes b r n w → w.taken ≡ true → load_in r.pb r.sb (entered w.book) ≡ r.load
   own_row {r} (replaced w) t = rw (replaced_entered r w) (set_same r.pb r.sb r (for_itself r) w)
   own_row {r} (appended w h) t = rw (appended_entered r h) (append_same r.pb r.sb r (for_itself r) w)
   own_row (refused _) t = absurd (false≢true t)
 
-  other_row : (pb sb : ℕ) {r : Reply} {n : Found} {w : Written} → is_for r pb sb ≡ false → Writes b r n w
+  other_row : (pb sb : ℕ) {r : Reply} {n : Option ℕ} {w : Written} → is_for r pb sb ≡ false → Writes b r n w
       → load_in pb sb (entered w.book) ≡ load_in pb sb (entered b)
   other_row pb sb {r} f (replaced w) = rw (replaced_entered r w) (set_other r r.pb r.sb pb sb (for_itself r) f w)
   other_row pb sb {r} f (appended w h) = rw (appended_entered r h) (append_other pb sb r (entered b) f)
   other_row pb sb f (refused _) = refl
 
-  refused_row : {r : Reply} {n : Found} {w : Written} → Writes b r n w → (w.taken ≡ false) ↔ ((b.held ≡ reply_entries) × (n ≡ Missing))
+  refused_row : {r : Reply} {n : Option ℕ} {w : Written} → Writes b r n w → (w.taken ≡ false) ↔ ((b.held ≡ reply_entries) × (n ≡ None))
   refused_row (replaced _) =
       (λ t. absurd (false≢true (sym t)), λ p. let q = p.1 in let z : ◌≡◌ {A = ℕ} 0 1 = cc q in absurd (omega arith))
   refused_row (appended _ h) = (λ t. absurd (false≢true (sym t)), λ p. absurd (omega (arith, h, p.0)))
   refused_row (refused e) = (λ _. (e, refl), λ _. refl)
 
-  unchanged_row : {r : Reply} {n : Found} {w : Written} → Writes b r n w → w.taken ≡ false → w.book ≡ b
+  unchanged_row : {r : Reply} {n : Option ℕ} {w : Written} → Writes b r n w → w.taken ≡ false → w.book ≡ b
   unchanged_row (replaced _) t = absurd (false≢true (sym t))
   unchanged_row (appended _ _) t = absurd (false≢true (sym t))
   unchanged_row (refused _) t = refl
@@ -223,7 +222,7 @@ module _ (b : ReplyBook) (r : Reply) (k : Filed b) where
       answer_in (written b r).book (written_filed b k r) pb sb ∙ other_row b k pb sb (not_for r pb sb n) (writes b k r) ∙ sym (answer_in b k pb sb)
 
   -- turned down exactly when 8 entries are held and none has this PB and SB
-  pub refused_exactly_when : ((written b r).taken ≡ false) ↔ ((b.held ≡ reply_entries) × (entry_of b r.pb r.sb ≡ Missing))
+  pub refused_exactly_when : ((written b r).taken ≡ false) ↔ ((b.held ≡ reply_entries) × (entry_of b r.pb r.sb ≡ None))
   refused_exactly_when = refused_row b k (writes b k r)
 
   -- and then nothing changes
@@ -231,12 +230,12 @@ module _ (b : ReplyBook) (r : Reply) (k : Filed b) where
   refused_unchanged t = unchanged_row b k (writes b k r) t
 
 -- at first there is no entry
-pub none_missing : (pb sb : ℕ) → entry_of no_entries pb sb ≡ Missing
+pub none_missing : (pb sb : ℕ) → entry_of no_entries pb sb ≡ None
 unfolding entry_of no_entries count_in first_from
 none_missing pb sb = refl
 
 -- with no entry the answer has NN 0
-pub missing_answer : (b : ReplyBook) (pb sb : ℕ) → entry_of b pb sb ≡ Missing → answer_for b pb sb ≡ no_reply.load
+pub missing_answer : (b : ReplyBook) (pb sb : ℕ) → entry_of b pb sb ≡ None → answer_for b pb sb ≡ no_reply.load
 unfolding answer_for
 missing_answer b pb sb e = rw e
 

@@ -12,7 +12,7 @@ use lib.ListN.{length, get_or, take, drop, set, length-append, length-drop, leng
 use lib.Seq.{length-take-le, take-append-le, take-suc-set}
 use Rattle.wire.specs.declared.part.Telegram.{Telegram}
 use Rattle.station.specs.declared.outbox.Outbox.{Outbox}
-use Rattle.station.specs.declared.outbox.Accepted.{Accepted}
+use Rattle.station.specs.Outbox.{Accepted}
 use Rattle.station.specs.Outbox.{queue_depth, no_telegram, none_held, held_in, waiting, accepted, oldest_of, dropped}
 
 -- an array of 4, and at most 4 held

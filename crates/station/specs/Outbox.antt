@@ -1,9 +1,9 @@
 -- The telegrams that a master has waiting, oldest first: 4 at most (01, the table's line 5). Assumes nothing.
-use Rattle.std.specs.Prelude.{true, false, cond, List, ◌++◌, ℕ, ◌+◌, ◌-◌, eqb, ltb, get_or, set, take, drop, replicate}
+use Rattle.std.specs.Prelude.{Bool, true, false, cond, Result, ⊤, is_ok, List, ◌++◌, ℕ, ◌+◌, ◌-◌, eqb, ltb, get_or, set, take, drop, replicate}
 use Rattle.wire.specs.Load.{empty_load}
 use Rattle.wire.specs.declared.part.Telegram.{Telegram}
 use Rattle.station.specs.declared.outbox.Outbox.{Outbox}
-use Rattle.station.specs.declared.outbox.Accepted.{Accepted}
+use Rattle.station.specs.declared.outbox.Full.{Full}
 
 abbrev pub queue_depth : ℕ
 queue_depth = 4
@@ -20,6 +20,15 @@ held_in o = o.held
 -- the telegrams held, oldest first
 unfoldable pub waiting : Outbox → List Telegram
 waiting o = take o.held o.slots
+
+-- what a call that may find it full makes of it
+pub record Accepted : Type 0 where
+  pub taken : Bool
+  pub outbox : Outbox
+
+-- the outbox after the call, and whether the call was taken
+abbrev pub taking : Outbox → Result ⊤ Full → Accepted
+taking o r = record { taken = is_ok r; outbox = o }
 
 -- one more, behind the others; or nothing changes where there is no room
 unfoldable pub accepted : Outbox → Telegram → Accepted

@@ -1,14 +1,13 @@
 -- What a slave answers, by PB and SB: 8 entries at most (01, "Answer" and the table's line 12). Assumes nothing.
-use Rattle.std.specs.Prelude.{Bool, true, false, cond, ℕ, ◌+◌, eqb, ltb, get_or, set, take, replicate}
+use Rattle.std.specs.Prelude.{Result, ⊤, is_ok, Bool, true, false, cond, ℕ, ◌+◌, eqb, ltb, get_or, set, take, replicate}
 use Rattle.laws.specs.AtMost.{at_most}
 use Rattle.laws.specs.First.{first_from}
-use Rattle.laws.specs.declared.Found.{Found}
-use Rattle.laws.specs.declared.Found.TheVariants.{At, Missing}
+use Rattle.std.specs.Prelude.{Option, Some, None}
 use Rattle.wire.specs.Load.{empty_load}
 use Rattle.wire.specs.declared.part.Load.{Load}
 use Rattle.station.specs.declared.replies.Reply.{Reply}
 use Rattle.station.specs.declared.replies.ReplyBook.{ReplyBook}
-use Rattle.station.specs.declared.replies.Written.{Written}
+use Rattle.station.specs.declared.outbox.Full.{Full}
 
 abbrev pub reply_entries : ℕ
 reply_entries = 8
@@ -28,7 +27,7 @@ unfoldable pub count_in : ReplyBook → ℕ
 count_in b = at_most b.held reply_entries
 
 -- the first entry for PB and SB
-unfoldable pub entry_of : ReplyBook → ℕ → ℕ → Found
+unfoldable pub entry_of : ReplyBook → ℕ → ℕ → Option ℕ
 entry_of b pb sb = first_from (λ e. is_for e pb sb) 0 (take (count_in b) b.entries)
 
 unfoldable pub entry_at : ReplyBook → ℕ → Reply
@@ -36,6 +35,15 @@ entry_at b i = get_or b.entries i no_reply
 
 unfoldable pub with_entry : ReplyBook → ℕ → Reply → ReplyBook
 with_entry b i r = record { entries = set b.entries i r; held = b.held }
+
+-- what a call that may find it full makes of it
+pub record Written : Type 0 where
+  pub taken : Bool
+  pub book : ReplyBook
+
+-- the book after the call, and whether the call was taken
+abbrev pub writing : ReplyBook → Result ⊤ Full → Written
+writing b r = record { taken = is_ok r; book = b }
 
 -- an entry more, or nothing changes where there is no room
 unfoldable pub added : ReplyBook → Reply → Written
@@ -45,17 +53,17 @@ added b r =
     (record { taken = false; book = b })
 
 -- a reply with the same PB and SB replaces the entry
-abbrev pub written_at : Found → ReplyBook → Reply → Written
-written_at (At i) b r = record { taken = true; book = with_entry b i r }
-written_at Missing b r = added b r
+abbrev pub written_at : Option ℕ → ReplyBook → Reply → Written
+written_at (Some i) b r = record { taken = true; book = with_entry b i r }
+written_at None b r = added b r
 
 unfoldable pub written : ReplyBook → Reply → Written
 written b r = written_at (entry_of b r.pb r.sb) b r
 
 -- with no entry the answer has NN 0
-abbrev pub load_at : Found → ReplyBook → Load
-load_at (At i) b = (entry_at b i).load
-load_at Missing b = no_reply.load
+abbrev pub load_at : Option ℕ → ReplyBook → Load
+load_at (Some i) b = (entry_at b i).load
+load_at None b = no_reply.load
 
 unfoldable pub answer_for : ReplyBook → ℕ → ℕ → Load
 answer_for b pb sb = load_at (entry_of b pb sb) b

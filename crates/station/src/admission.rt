@@ -15,36 +15,27 @@ impl Since {
     {
         match self {
             Since::Nothing => Since::OneSymbol,
-            Since::OneSymbol => Since::ManyOrNoSyn,
-            Since::ManyOrNoSyn => Since::ManyOrNoSyn,
+            Since::OneSymbol | Since::ManyOrNoSyn => Since::ManyOrNoSyn,
         }
     }
 }
 
 impl Station {
     // Whether the AA just heard admits it: all masters, or only the marked after exactly one symbol.
+    #[tactic(auto, unfolding(crate::specs::Admission::admits))]
     fn admits(self) -> bool
         ensures { result ≡ admits self }
     {
-        if self.master {
-            let since = self.since;
-            match since {
-                Since::Nothing => true,
-                Since::OneSymbol => self.marked,
-                Since::ManyOrNoSyn => true,
-            }
-        } else {
-            false
-        }
+        self.master && (self.marked || !matches!(self.since, Since::OneSymbol))
     }
 
     // Marks go out at every AA, and each station reads.
+    #[tactic(auto, unfolding(crate::specs::Admission::restarted))]
     pub(crate) fn restart(self) -> Station
         ensures { result ≡ restarted self }
     {
-        let admitted = self.admits();
         Station {
-            admitted: admitted,
+            admitted: self.admits(),
             marked: false,
             since: Since::Nothing,
             phase: Phase::Reading {
@@ -57,17 +48,14 @@ impl Station {
     }
 
     // Whether it sends its QQ: a master that the AA admitted, with a telegram waiting.
+    #[tactic(auto, unfolding(crate::specs::Admission::bids))]
     pub fn bids(self) -> bool
         ensures { result ≡ bids self }
     {
-        if self.admitted {
-            let outbox = self.outbox;
-            0 < outbox.held()
-        } else {
-            false
-        }
+        self.admitted && self.outbox.held() > 0
     }
 
+    #[tactic(auto, unfolding(crate::specs::Admission::say_bid))]
     pub(crate) fn say_bid(self) -> Sound
         ensures { result ≡ say_bid self }
     {
@@ -79,40 +67,39 @@ impl Station {
     }
 
     // A symbol is heard, and with its slot the admission is over.
+    #[tactic(auto, unfolding(crate::specs::Admission::noted))]
     pub(crate) fn noted(self) -> Station
         ensures { result ≡ noted self }
     {
-        let since = self.since;
         Station {
             admitted: false,
-            since: since.next(),
+            since: self.since.next(),
             ..self
         }
     }
 
     // It heard its own QQ: it owns the wire, and ZZ comes next.
+    #[tactic(auto, unfolding(crate::specs::Admission::owned))]
     pub(crate) fn owned(self) -> Turn
         ensures { result ≡ owned self }
     {
-        let outbox = self.outbox;
-        let oldest = outbox.oldest();
-        let out = outbox.oldest_form();
         Turn {
+            told: Told::Owns,
             station: Station {
                 phase: Phase::Sending {
                     at: 1,
                     part: Part::MasterPart,
                     attempt: Attempt::First,
                 },
-                part: oldest,
-                out: out,
+                part: self.outbox.oldest(),
+                out: self.outbox.oldest_form(),
                 ..self
             },
-            told: Told::Owns,
         }
     }
 
     // It heard another symbol: it marks itself if the low half is its class.
+    #[tactic(auto, unfolding(crate::specs::Admission::withdrawn))]
     pub(crate) fn marks(address: u8, s: u8) -> bool
         ensures { (t : Station) → t.address ≡ address → with_access t t.admitted result t.since ≡ withdrawn t s }
     {

@@ -12,24 +12,25 @@ use wire::part::Part;
 
 impl Station {
     // Every way in which an owner leaves the wire: its telegram leaves the outbox, taken or not.
+    #[tactic(auto, unfolding(crate::specs::Table::left))]
     fn leave(self) -> Station
         ensures { result ≡ left self }
     {
-        let outbox = self.outbox;
         Station {
             phase: Phase::Silent,
-            outbox: outbox.drop_oldest(),
+            outbox: self.outbox.drop_oldest(),
             ..self
         }
     }
 
     // The owner sent SYN: it leaves, whatever is heard.
+    #[tactic(auto, unfolding(crate::specs::Table::released))]
     pub(crate) fn release(self) -> Turn
         ensures { result ≡ released self }
     {
         Turn {
-            station: self.leave(),
             told: Told::Free,
+            station: self.leave(),
         }
     }
 
@@ -38,18 +39,12 @@ impl Station {
         ensures { result ≡ owner_fails failure self }
     {
         match failure {
-            Failure::Disturbed => Turn {
+            Failure::Disturbed | Failure::SynHeard => Turn {
+                told: Told::FailedFree(failure),
                 station: self.leave(),
-                told: Told::FailedFree(Failure::Disturbed),
             },
-            Failure::WrongAck => self.then_syn(Failure::WrongAck),
-            Failure::TwiceNak => self.then_syn(Failure::TwiceNak),
-            Failure::SynHeard => Turn {
-                station: self.leave(),
-                told: Told::FailedFree(Failure::SynHeard),
-            },
-            Failure::PairBroken(pair) => self.then_syn(Failure::PairBroken(pair)),
-            Failure::OverLong => self.then_syn(Failure::OverLong),
+            Failure::WrongAck | Failure::TwiceNak | Failure::PairBroken(_) | Failure::OverLong =>
+                self.then_syn(failure),
         }
     }
 
@@ -58,9 +53,7 @@ impl Station {
         ensures { result ≡ goes self Releasing (Failed failure) }
     {
         let next = Next::then_syn(failure);
-        let phase = next.phase;
-        let told = next.told;
-        self.go(phase, told)
+        self.go(next.phase, next.told)
     }
 
     // The sender of a master part is the owner, of an answer a slave.

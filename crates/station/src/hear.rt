@@ -12,118 +12,89 @@ use wire::part::Part;
 use wire::reader::{Cursor, Outcome};
 
 impl Station {
+    #[tactic(auto, unfolding(crate::specs::Hear::hears))]
     pub fn hear(self, heard: Sound) -> Turn
         ensures { result ≡ hears self heard }
     {
-        let Sound::Symbol(s) = heard else {
-            return self.hear_quiet();
-        };
-        if s == Station::SYN {
-            return self.hear_syn();
+        match heard {
+            Sound::Quiet => self.hear_quiet(),
+            Sound::Symbol(Station::SYN) => self.hear_syn(),
+            Sound::Symbol(s) => self.hear_symbol(s),
         }
-        self.hear_symbol(s)
     }
 
     // The station in another phase, and what it is told.
+    #[tactic(auto, unfolding(crate::specs::Turn::goes))]
     pub(crate) fn go(self, phase: Phase, told: Told) -> Turn
         ensures { result ≡ goes self phase told }
     {
         Turn {
-            station: Station {
-                phase: phase,
-                ..self
-            },
-            told: told,
+            told,
+            station: Station { phase, ..self },
         }
     }
 
+    #[tactic(auto, unfolding(crate::specs::Hear::hear_quiet))]
     fn hear_quiet(mut self) -> Turn
         ensures { result ≡ hear_quiet self }
     {
-        let phase = self.phase;
         self.admitted = false;
-        match phase {
-            Phase::Silent => self.go(phase, Told::Silence),
-            Phase::Reading {
-                cursor: _,
-                part: _,
-                attempt: _,
-            } => self.go(phase, Told::Silence),
-            Phase::Sending {
-                at: _,
-                part,
-                attempt: _,
-            } => self.fail_sender(part, Failure::Disturbed),
-            Phase::Awaiting {
-                part: _,
-                attempt: _,
-            } => self.go(phase, Told::Silence),
+        match self.phase {
+            Phase::Silent | Phase::Reading { .. } | Phase::Awaiting { .. } | Phase::Owing => {
+                self.go(self.phase, Told::Silence)
+            }
+            Phase::Sending { part, .. } => self.fail_sender(part, Failure::Disturbed),
             Phase::Judging {
                 part,
                 attempt,
                 matched,
-                acknowledged: _,
+                ..
             } => self.go(
                 Phase::Judging {
-                    part: part,
-                    attempt: attempt,
-                    matched: matched,
+                    part,
+                    attempt,
+                    matched,
                     acknowledged: true,
                 },
                 Told::Silence,
             ),
-            Phase::Owing => self.go(phase, Told::Silence),
             Phase::Releasing => self.release(),
         }
     }
 
     // Whatever AA told a station, from then on it reads.
+    #[tactic(auto, unfolding(crate::specs::Hear::hear_syn))]
     fn hear_syn(self) -> Turn
         ensures { result ≡ hear_syn self }
     {
         let turn = self.cut();
-        let told = turn.told;
-        let station = turn.station;
         Turn {
-            station: station.restart(),
-            told: told,
+            told: turn.told,
+            station: turn.station.restart(),
         }
     }
 
+    #[tactic(auto, unfolding(crate::specs::Hear::cut))]
     fn cut(self) -> Turn
         ensures { result ≡ cut self }
     {
-        let phase = self.phase;
-        match phase {
-            Phase::Silent => self.go(phase, Told::Silence),
-            Phase::Reading {
-                cursor: _,
-                part,
-                attempt: _,
-            } => self.fail_reader(part, Failure::SynHeard),
-            Phase::Sending {
-                at: _,
-                part,
-                attempt: _,
-            } => self.fail_sender(part, Failure::Disturbed),
-            Phase::Awaiting { part, attempt: _ } => self.fail_sender(part, Failure::SynHeard),
-            Phase::Judging {
-                part,
-                attempt: _,
-                matched: _,
-                acknowledged: _,
-            } => self.fail_reader(part, Failure::SynHeard),
-            Phase::Owing => self.go(phase, Told::Silence),
+        match self.phase {
+            Phase::Silent | Phase::Owing => self.go(self.phase, Told::Silence),
+            Phase::Reading { part, .. } | Phase::Judging { part, .. } => {
+                self.fail_reader(part, Failure::SynHeard)
+            }
+            Phase::Sending { part, .. } => self.fail_sender(part, Failure::Disturbed),
+            Phase::Awaiting { part, .. } => self.fail_sender(part, Failure::SynHeard),
             Phase::Releasing => self.release(),
         }
     }
 
+    #[tactic(auto, unfolding(crate::specs::Hear::hear_symbol))]
     fn hear_symbol(self, s: u8) -> Turn
         ensures { result ≡ hear_symbol self s }
     {
-        let phase = self.phase;
-        match phase {
-            Phase::Silent => self.noted().go(phase, Told::Silence),
+        match self.phase {
+            Phase::Silent | Phase::Owing => self.noted().go(self.phase, Told::Silence),
             Phase::Reading {
                 cursor,
                 part,
@@ -135,14 +106,14 @@ impl Station {
                 part,
                 attempt,
                 matched,
-                acknowledged: _,
+                ..
             } => self.noted().judge(s, part, attempt, matched),
-            Phase::Owing => self.noted().go(phase, Told::Silence),
             Phase::Releasing => self.noted().release(),
         }
     }
 
     // Who sent its QQ judges by it; everybody else reads. The station is made anew once, at the end: it is large.
+    #[tactic(auto, unfolding(crate::specs::Admission::noted, crate::specs::Table::hear_reading, crate::specs::Table::hear_bid))]
     fn hear_reading(mut self, s: u8, cursor: Cursor, part: Part, attempt: Attempt) -> Turn
         ensures { result ≡ hear_reading (bids self) (noted self) s cursor part attempt }
     {
@@ -152,32 +123,26 @@ impl Station {
             }
             self.marked = Station::marks(self.address, s);
         }
-        let so_far = self.part;
-        let step = cursor.read(so_far, s);
-        let read = step.part;
-        let own = self.is_own(read.zz);
-        let outcome = step.outcome;
-        let next = match outcome {
-            Outcome::More => Next::read_on(step.cursor, part, attempt, own, read.zz),
-            Outcome::Cut => Next::lost(part, Failure::OverLong),
-            Outcome::NoMaster => Next::lost(part, Failure::OverLong),
-            Outcome::Unusable => Next::lost(part, Failure::OverLong),
-            Outcome::TooLong => Next::lost(part, Failure::OverLong),
+        let step = cursor.read(self.part, s);
+        let zz = step.part.zz;
+        let own = self.is_own(zz);
+        let next = match step.outcome {
+            Outcome::More => Next::read_on(step.cursor, part, attempt, own, zz),
+            Outcome::Cut | Outcome::NoMaster | Outcome::Unusable | Outcome::TooLong => {
+                Next::lost(part, Failure::OverLong)
+            }
             Outcome::BrokenPair(pair) => Next::lost(part, Failure::PairBroken(pair)),
-            Outcome::Whole(matched) => Next::whole(part, attempt, matched, read.zz),
+            Outcome::Whole(matched) => Next::whole(part, attempt, matched, zz),
         };
-        let since = self.since;
-        let phase = next.phase;
-        let told = next.told;
-        self.part = read;
         Turn {
+            told: next.told,
             station: Station {
                 admitted: false,
-                since: since.next(),
-                phase: phase,
+                since: self.since.next(),
+                phase: next.phase,
+                part: step.part,
                 ..self
             },
-            told: told,
         }
     }
 }

@@ -8,38 +8,36 @@ use wire::part::Part;
 use wire::reader::Cursor;
 
 impl Station {
+    #[tactic(auto, unfolding(crate::specs::Table::judges))]
     pub(crate) fn judge(self, s: u8, part: Part, attempt: Attempt, matched: bool) -> Turn
         ensures { result ≡ judges self s part attempt matched }
     {
-        if s == Station::ACK {
-            return self.judge_taken(part, matched);
+        match s {
+            Station::ACK => self.judge_taken(part, matched),
+            Station::NAK => self.read_again(part, attempt),
+            _ => self.fail_reader(part, Failure::WrongAck),
         }
-        if s == Station::NAK {
-            return self.read_again(part, attempt);
-        }
-        self.fail_reader(part, Failure::WrongAck)
     }
 
     // 00 after a wrong CRC hands nothing out.
+    #[tactic(auto, unfolding(crate::specs::Table::judged_taken))]
     fn judge_taken(self, part: Part, matched: bool) -> Turn
         ensures { result ≡ judged_taken self part matched }
     {
         if matched {
-            return self.hand_out(part);
+            self.hand_out(part)
+        } else {
+            self.fail_reader(part, Failure::WrongAck)
         }
-        self.fail_reader(part, Failure::WrongAck)
     }
 
+    #[tactic(auto, unfolding(crate::specs::Table::handed_out))]
     fn hand_out(self, part: Part) -> Turn
         ensures { result ≡ handed_out self part }
     {
         match part {
-            Part::MasterPart => {
-                if self.answered() {
-                    return self.go(Phase::Owing, Told::Given);
-                }
-                self.go(Phase::Silent, Told::Given)
-            }
+            Part::MasterPart if self.answered() => self.go(Phase::Owing, Told::Given),
+            Part::MasterPart => self.go(Phase::Silent, Told::Given),
             Part::AnswerPart => self.go(Phase::Releasing, Told::Answered),
         }
     }
@@ -49,17 +47,14 @@ impl Station {
         ensures { result ≡ read_again attempt self part }
     {
         match attempt {
-            Attempt::First => {
-                let start = Cursor::start(part);
-                self.go(
-                    Phase::Reading {
-                        cursor: start,
-                        part: part,
-                        attempt: Attempt::Again,
-                    },
-                    Told::Silence,
-                )
-            }
+            Attempt::First => self.go(
+                Phase::Reading {
+                    cursor: Cursor::start(part),
+                    part,
+                    attempt: Attempt::Again,
+                },
+                Told::Silence,
+            ),
             Attempt::Again => self.fail_reader(part, Failure::TwiceNak),
         }
     }

@@ -1,24 +1,22 @@
 // The telegrams that a master has waiting, oldest first. No other file names its fields.
 ghost use Rattle.std.specs.Prelude.{◌≡◌};
 ghost use Rattle.wire.specs.Form.{holding, telegram_form};
-ghost use Rattle.station.specs.Outbox.{no_telegram, none_held, held_in, accepted, oldest_of, dropped};
+ghost use Rattle.station.specs.Outbox.{no_telegram, none_held, held_in, taking, accepted, oldest_of, dropped};
 
 use crate::station::Station;
 use wire::form::Wire;
 use wire::part::{Load, Telegram};
 
+// Array and count, no Vec: refusal 5 comes at 4 telegrams held and at nothing else.
 #[derive(Clone, Copy)]
 pub struct Outbox {
     pub slots: [Telegram; Station::QUEUE_DEPTH],
     pub held: usize,
 }
 
-// The outbox with the telegram behind the others, or unchanged where it is full.
+// There is no room for one more.
 #[derive(Clone, Copy)]
-pub struct Accepted {
-    pub taken: bool,
-    pub outbox: Outbox,
-}
+pub struct Full;
 
 fn no_telegram() -> Telegram
     ensures { result ≡ no_telegram }
@@ -33,42 +31,38 @@ fn no_telegram() -> Telegram
 }
 
 impl Outbox {
+    #[tactic(auto, unfolding(crate::specs::Outbox::none_held))]
     pub fn empty() -> Outbox
         ensures { result ≡ none_held }
     {
-        let t = no_telegram();
         Outbox {
-            slots: [t; Station::QUEUE_DEPTH],
+            slots: [no_telegram(); Station::QUEUE_DEPTH],
             held: 0,
         }
     }
 
+    #[tactic(auto, unfolding(crate::specs::Outbox::held_in))]
     pub fn held(self) -> usize
         ensures { result ≡ held_in self }
     {
         self.held
     }
 
-    pub fn accept(mut self, t: Telegram) -> Accepted
-        ensures { result ≡ accepted self t }
+    // The telegram goes behind the others; a full outbox stays as it is.
+    #[tactic(auto, unfolding(crate::specs::Outbox::accepted))]
+    pub fn accept(&mut self, t: Telegram) -> Result<(), Full>
+        ensures { taking self.new result ≡ accepted self.old t }
     {
-        let n = self.held;
-        if n < Station::QUEUE_DEPTH {
-            self.slots[n] = t;
-            self.held = n + 1;
-            Accepted {
-                taken: true,
-                outbox: self,
-            }
-        } else {
-            Accepted {
-                taken: false,
-                outbox: self,
-            }
+        if self.held >= Station::QUEUE_DEPTH {
+            return Err(Full);
         }
+        self.slots[self.held] = t;
+        self.held += 1;
+        Ok(())
     }
 
     // The telegram held longest.
+    #[tactic(auto, unfolding(crate::specs::Outbox::oldest_of))]
     pub fn oldest(self) -> Telegram
         ensures { result ≡ oldest_of self }
     {
@@ -78,26 +72,19 @@ impl Outbox {
     pub fn oldest_form(self) -> Wire
         ensures { result ≡ holding (telegram_form (oldest_of self)) }
     {
-        let t = self.slots[0];
-        wire::form::telegram_form(t)
+        wire::form::telegram_form(self.oldest())
     }
 
     // The oldest leaves; each other moves up by one.
+    #[tactic(auto, unfolding(crate::specs::Outbox::dropped))]
     pub fn drop_oldest(mut self) -> Outbox
         ensures { result ≡ dropped self }
     {
-        let n = self.held;
-        if n == 0 {
+        if self.held == 0 {
             return self;
         }
-        let mut i: usize = 0;
-        while i < Station::QUEUE_DEPTH - 1 {
-            let next = i + 1;
-            let t = self.slots[next];
-            self.slots[i] = t;
-            i = next;
-        }
-        self.held = n - 1;
+        self.slots.copy_within(1.., 0);
+        self.held -= 1;
         self
     }
 }

@@ -56,7 +56,8 @@ pub enum Since {
     ManyOrNoSyn,
 }
 
-// What one station says in a slot, and what all hear.
+// What one station says in a slot, and what all hear. No Option: quiet is 01's word for
+// something that all hear, and definitions are in 01's words.
 #[derive(Clone, Copy)]
 pub enum Sound {
     Quiet,
@@ -90,8 +91,7 @@ impl Failure {
             Failure::WrongAck => 2,
             Failure::TwiceNak => 3,
             Failure::SynHeard => 4,
-            Failure::PairBroken(_) => 5,
-            Failure::OverLong => 5,
+            Failure::PairBroken(_) | Failure::OverLong => 5,
         }
     }
 }
@@ -115,25 +115,9 @@ impl Phase {
         ensures { result ≡ owner self }
     {
         match self {
-            Phase::Silent => false,
-            Phase::Reading {
-                cursor: _,
-                part,
-                attempt: _,
-            } => part.is_answer(),
-            Phase::Sending {
-                at: _,
-                part,
-                attempt: _,
-            } => part.is_master(),
-            Phase::Awaiting { part, attempt: _ } => part.is_master(),
-            Phase::Judging {
-                part,
-                attempt: _,
-                matched: _,
-                acknowledged: _,
-            } => part.is_answer(),
-            Phase::Owing => false,
+            Phase::Silent | Phase::Owing => false,
+            Phase::Reading { part, .. } | Phase::Judging { part, .. } => part.is_answer(),
+            Phase::Sending { part, .. } | Phase::Awaiting { part, .. } => part.is_master(),
             Phase::Releasing => true,
         }
     }

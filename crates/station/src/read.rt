@@ -23,110 +23,82 @@ pub struct Next {
 
 impl Station {
     // Whether ZZ is FE.
+    #[tactic(auto, unfolding(crate::specs::Addressed::for_all))]
     pub(crate) fn for_all(zz: u8) -> bool
         ensures { result ≡ for_all zz }
     {
-        match address::role_of(zz) {
-            Role::Master => false,
-            Role::Slave => false,
-            Role::Broadcast => true,
-            Role::Never => false,
-        }
+        matches!(address::role_of(zz), Role::Broadcast)
     }
 
     // Whether an answer belongs to the transfer: a part sent to a master address gets none.
+    #[tactic(auto, unfolding(crate::specs::Addressed::answered))]
     pub(crate) fn answered(self) -> bool
         ensures { result ≡ answered self.part.zz }
     {
-        if address::is_master(self.part.zz) {
-            false
-        } else {
-            true
-        }
+        !address::is_master(self.part.zz)
     }
 
     // Whether an address is its own; a master has two.
+    #[tactic(auto, unfolding(crate::specs::Addressed::is_own))]
     pub fn is_own(self, zz: u8) -> bool
         ensures { result ≡ is_own self zz }
     {
-        if zz == self.address {
-            true
-        } else if self.master {
-            zz == address::slave_of(self.address)
-        } else {
-            false
-        }
+        zz == self.address || (self.master && zz == address::slave_of(self.address))
     }
 }
 
 impl Next {
     // ZZ is tested when it has been read: PB comes next. `own`: whether it is the reader's own address.
+    #[tactic(auto, unfolding(crate::specs::Table::read_on))]
     pub(crate) fn read_on(cursor: Cursor, part: Part, attempt: Attempt, own: bool, zz: u8) -> Next
         ensures { (s : Station) → s.part.zz ≡ zz → is_own s zz ≡ own
             → goes s result.phase result.told ≡ read_on s cursor part attempt }
     {
         let on = Phase::Reading {
-            cursor: cursor,
-            part: part,
-            attempt: attempt,
+            cursor,
+            part,
+            attempt,
         };
-        let place = cursor.place;
-        let Place::Pb = place else {
-            return Next {
+        match cursor.place {
+            Place::Pb => Next::addressed(on, own, zz),
+            _ => Next {
                 phase: on,
                 told: Told::Silence,
-            };
-        };
-        Next::addressed(on, own, zz)
+            },
+        }
     }
 
+    #[tactic(auto, unfolding(crate::specs::Table::addressed))]
     fn addressed(on: Phase, own: bool, zz: u8) -> Next
         ensures { (s : Station) → s.part.zz ≡ zz → is_own s zz ≡ own
             → goes s result.phase result.told ≡ addressed s on }
     {
-        if own {
-            return Next {
-                phase: on,
-                told: Told::Silence,
-            };
-        }
-        if Station::for_all(zz) {
-            return Next {
-                phase: on,
-                told: Told::Silence,
-            };
-        }
+        let goes_on = own || Station::for_all(zz);
         Next {
-            phase: Phase::Silent,
+            phase: if goes_on { on } else { Phase::Silent },
             told: Told::Silence,
         }
     }
 
     // The part has come to its end. A broadcast is handed out at once; any other part is acknowledged.
+    #[tactic(auto, unfolding(crate::specs::Table::whole))]
     pub(crate) fn whole(part: Part, attempt: Attempt, matched: bool, zz: u8) -> Next
         ensures { (s : Station) → s.part.zz ≡ zz → goes s result.phase result.told ≡ whole s part attempt matched }
     {
-        let judging = Next {
+        if part.is_master() && Station::for_all(zz) {
+            return Next {
+                phase: Phase::Silent,
+                told: if matched { Told::Given } else { Told::Silence },
+            };
+        }
+        Next {
             phase: Phase::Judging {
-                part: part,
-                attempt: attempt,
-                matched: matched,
+                part,
+                attempt,
+                matched,
                 acknowledged: false,
             },
             told: Told::Silence,
-        };
-        match part {
-            Part::MasterPart => {
-                if Station::for_all(zz) {
-                    let told = if matched { Told::Given } else { Told::Silence };
-                    return Next {
-                        phase: Phase::Silent,
-                        told: told,
-                    };
-                }
-                judging
-            }
-            Part::AnswerPart => judging,
         }
     }
 

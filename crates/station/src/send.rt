@@ -9,21 +9,18 @@ use wire::part::Part;
 use wire::reader::Cursor;
 
 impl Station {
+    #[tactic(auto, using(crate::proofs::Due::due_within), unfolding(crate::specs::Table::hear_own))]
     pub(crate) fn hear_own(self, s: u8, at: usize, part: Part, attempt: Attempt) -> Turn
         ensures { result ≡ hear_own self s at part attempt }
     {
         match self.due(at) {
-            Sound::Quiet => self.fail_sender(part, Failure::Disturbed),
-            Sound::Symbol(own) => {
-                if own == s {
-                    return self.sent(at, part, attempt);
-                }
-                self.fail_sender(part, Failure::Disturbed)
-            }
+            Sound::Symbol(own) if own == s => self.sent(at, part, attempt),
+            _ => self.fail_sender(part, Failure::Disturbed),
         }
     }
 
     // Its symbol was heard: the next one, or the part is out.
+    #[tactic(auto, unfolding(crate::specs::Table::sent))]
     fn sent(self, at: usize, part: Part, attempt: Attempt) -> Turn
         requires { at < room }
         ensures { result ≡ sent self at part attempt }
@@ -33,8 +30,8 @@ impl Station {
             return self.go(
                 Phase::Sending {
                     at: next,
-                    part: part,
-                    attempt: attempt,
+                    part,
+                    attempt,
                 },
                 Told::Silence,
             );
@@ -43,55 +40,44 @@ impl Station {
     }
 
     // A broadcast is taken when its last symbol is heard; any other part awaits its acknowledgement.
+    #[tactic(auto, unfolding(crate::specs::Table::sent_whole))]
     fn sent_whole(self, part: Part, attempt: Attempt) -> Turn
         ensures { result ≡ sent_whole self part attempt }
     {
-        let awaiting = Phase::Awaiting {
-            part: part,
-            attempt: attempt,
-        };
-        match part {
-            Part::MasterPart => {
-                if Station::for_all(self.part.zz) {
-                    return self.go(Phase::Releasing, Told::Taken);
-                }
-                self.go(awaiting, Told::Silence)
-            }
-            Part::AnswerPart => self.go(awaiting, Told::Silence),
+        if part.is_master() && Station::for_all(self.part.zz) {
+            self.go(Phase::Releasing, Told::Taken)
+        } else {
+            self.go(Phase::Awaiting { part, attempt }, Told::Silence)
         }
     }
 
     // What the sender of a part hears while it awaits the acknowledgement.
+    #[tactic(auto, unfolding(crate::specs::Table::hear_reply))]
     pub(crate) fn hear_reply(self, s: u8, part: Part, attempt: Attempt) -> Turn
         ensures { result ≡ hear_reply self s part attempt }
     {
-        if s == Station::ACK {
-            return self.taken(part);
+        match s {
+            Station::ACK => self.taken(part),
+            Station::NAK => self.nak_heard(part, attempt),
+            _ => self.fail_sender(part, Failure::WrongAck),
         }
-        if s == Station::NAK {
-            return self.nak_heard(part, attempt);
-        }
-        self.fail_sender(part, Failure::WrongAck)
     }
 
     // A part sent to a slave address is answered, with an attempt count of its own.
+    #[tactic(auto, unfolding(crate::specs::Table::taken))]
     fn taken(self, part: Part) -> Turn
         ensures { result ≡ taken self part }
     {
         match part {
-            Part::MasterPart => {
-                if self.answered() {
-                    return self.go(
-                        Phase::Reading {
-                            cursor: Cursor::start(Part::AnswerPart),
-                            part: Part::AnswerPart,
-                            attempt: Attempt::First,
-                        },
-                        Told::Taken,
-                    );
-                }
-                self.go(Phase::Releasing, Told::Taken)
-            }
+            Part::MasterPart if self.answered() => self.go(
+                Phase::Reading {
+                    cursor: Cursor::start(Part::AnswerPart),
+                    part: Part::AnswerPart,
+                    attempt: Attempt::First,
+                },
+                Told::Taken,
+            ),
+            Part::MasterPart => self.go(Phase::Releasing, Told::Taken),
             Part::AnswerPart => self.go(Phase::Silent, Told::Taken),
         }
     }
@@ -104,7 +90,7 @@ impl Station {
             Attempt::First => self.go(
                 Phase::Sending {
                     at: 0,
-                    part: part,
+                    part,
                     attempt: Attempt::Again,
                 },
                 Told::Silence,

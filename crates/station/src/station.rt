@@ -44,6 +44,7 @@ impl Station {
 
     pub const REPLY_ENTRIES: usize = 8;
 
+    // Two names over one function: what is made is read where it is made.
     pub fn fresh_master(address: u8) -> Station
         ensures { result ≡ fresh address true }
     {
@@ -57,105 +58,83 @@ impl Station {
     }
 
     // Before the first AA it is silent.
+    #[tactic(auto, unfolding(crate::specs::Station::fresh))]
     fn fresh(address: u8, master: bool) -> Station
         ensures { result ≡ fresh address master }
     {
         let outbox = Outbox::empty();
-        let part = outbox.oldest();
-        let out = wire::form::empty();
-        let replies = ReplyBook::empty();
         Station {
-            address: address,
-            master: master,
+            address,
+            master,
             admitted: false,
             marked: false,
             since: Since::ManyOrNoSyn,
             phase: Phase::Silent,
-            part: part,
-            out: out,
-            outbox: outbox,
-            replies: replies,
+            part: outbox.oldest(),
+            out: wire::form::empty(),
+            outbox,
+            replies: ReplyBook::empty(),
         }
     }
 
     // As a slot begins: a slave that owes an answer takes it from its reply book as it stands now.
+    #[tactic(auto, unfolding(crate::specs::Station::ready))]
     pub fn ready(self) -> Station
         ensures { result ≡ ready self }
     {
-        let phase = self.phase;
-        let Phase::Owing = phase else {
-            return self;
-        };
-        self.answering()
+        match self.phase {
+            Phase::Owing => self.answering(),
+            _ => self,
+        }
     }
 
+    #[tactic(auto, unfolding(crate::specs::Station::answering))]
     fn answering(self) -> Station
         ensures { result ≡ answering self }
     {
-        let part = self.part;
-        let replies = self.replies;
-        let load = replies.answer(part.pb, part.sb);
-        let out = wire::form::answer_form(load);
+        let load = self.replies.answer(self.part.pb, self.part.sb);
         Station {
             phase: Phase::Sending {
                 at: 0,
                 part: Part::AnswerPart,
                 attempt: Attempt::First,
             },
-            out: out,
+            out: wire::form::answer_form(load),
             ..self
         }
     }
 
     // The symbol at a place of the part that it sends.
+    #[tactic(auto, unfolding(crate::specs::Station::due))]
     pub(crate) fn due(self, at: usize) -> Sound
         ensures { result ≡ due self at }
     {
-        let out = self.out;
-        if at < Wire::ROOM {
-            if at < out.len {
-                Sound::Symbol(out.bytes[at])
-            } else {
-                Sound::Quiet
-            }
-        } else {
-            Sound::Quiet
+        match self.out.bytes.get(at) {
+            Some(&s) if at < self.out.len => Sound::Symbol(s),
+            _ => Sound::Quiet,
         }
     }
 
     // What it says in a slot, from its own state alone.
+    #[tactic(auto, unfolding(crate::specs::Station::says))]
     pub fn say(self) -> Sound
         ensures { result ≡ says self }
     {
-        let phase = self.phase;
-        match phase {
-            Phase::Silent => Sound::Quiet,
-            Phase::Reading {
-                cursor: _,
-                part: _,
-                attempt: _,
-            } => self.say_bid(),
-            Phase::Sending {
-                at,
-                part: _,
-                attempt: _,
-            } => self.due(at),
-            Phase::Awaiting {
-                part: _,
-                attempt: _,
-            } => Sound::Quiet,
+        match self.phase {
+            Phase::Silent | Phase::Awaiting { .. } | Phase::Owing => Sound::Quiet,
+            Phase::Reading { .. } => self.say_bid(),
+            Phase::Sending { at, .. } => self.due(at),
             Phase::Judging {
-                part: _,
-                attempt: _,
                 matched,
                 acknowledged,
+                ..
             } => Station::acknowledgement(matched, acknowledged),
-            Phase::Owing => Sound::Quiet,
             Phase::Releasing => Sound::Symbol(Station::SYN),
         }
     }
 
     // Once for each reading, and nothing more until it has judged.
+    #[tactic(auto, unfolding(crate::specs::Station::acknowledgement))]
     fn acknowledgement(matched: bool, acknowledged: bool) -> Sound
         ensures { result ≡ acknowledgement matched acknowledged }
     {

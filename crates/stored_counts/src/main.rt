@@ -10,14 +10,15 @@ fn main(rt: HostRuntime) -> ExitCode {
 }
 
 // Two addresses joined by a colon; any other length is `all`.
-fn asked(word: &[u8]) -> Question {
+fn asked(word: &[u8]) -> Option<Question> {
     if word.len() == 5 {
         tally::ask::question_of(&word[..2], &word[3..])
     } else {
-        Question::All
+        Some(Question::All)
     }
 }
 
+// Beside those of the other stored programs: each is a crate with files of its own.
 fn count_named(rt: HostRuntime, word: &[u8], path: &[u8]) -> Result<(), Failure> {
     files::title(&mut rt.stdout(), &[word, path])?;
     let mut file = files::open(&rt, path)?;

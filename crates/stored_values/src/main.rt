@@ -8,6 +8,7 @@ fn main(rt: HostRuntime) -> ExitCode {
     files::each(rt, |path| sheet_named(rt, path))
 }
 
+// Beside those of the other stored programs: each is a crate with files of its own.
 fn sheet_named(rt: HostRuntime, path: &[u8]) -> Result<(), Failure> {
     files::title(&mut rt.stdout(), &[path])?;
     let mut file = files::open(&rt, path)?;

@@ -2,15 +2,16 @@
 -- always is needs what holds of every bus that calls bring about. Assumes nothing.
 use mathlib.Core.Path.{◌≡◌, refl, sym, ap, subst, ◌∙◌}
 use mathlib.Core.Bool.{Bool, true, false, true≢false}
-use mathlib.Core.Logic.{◌≢◌}
+use Rattle.std.specs.Prelude.{Option, Some, None}
 use mathlib.Core.List.{List}
 use Prim.Native.Nat.{ℕ}
 use native.Mathlib.Omega.{arith}
 use lib.ListN.{length}
 use Rattle.walk.specs.Field.{Bytes}
 use Rattle.walk.specs.Form.{form_of}
-use Rattle.walk.specs.declared.form.Form.{Form}
-use Rattle.walk.specs.declared.form.Form.TheVariants.{Good, BadField, TooLong}
+use Rattle.std.specs.Prelude.{Result, ⊤, Ok, Err}
+use Rattle.walk.specs.declared.form.FormError.{FormError}
+use Rattle.walk.specs.declared.form.FormError.TheVariants.{BadField, TooLong}
 use Rattle.pairs.specs.Recount.{records_of}
 use Rattle.pairs.specs.Tallied.{Tallied}
 use Rattle.pairs.specs.declared.Book.{Book}
@@ -42,7 +43,6 @@ records_recounted b xs h = rw (all_in_use b.table b.counts xs h) h.recs
 pub text_is_recounted : (q : Question) (b : Book) (xs : List Transfer) → TalliedBook b xs → book_text q b ≡ recount_text q xs
 text_is_recounted question.All b xs h = rw (records_recounted b xs h, h.others)
 text_is_recounted (question.Pair qq zz) b xs h = rw (asked_is_recounted b.table b.counts qq zz xs h)
-text_is_recounted question.Unreadable b xs h = refl
 
 -- the table after the scenario is what a recount of all its lines gives
 abbrev pub TalliedAfter : List ℕ → Type 0
@@ -50,43 +50,33 @@ TalliedAfter s = TalliedBook (counted_of s) (ended_of s)
 
 -- ---- what is written
 
-abbrev is_good : Form → Bool
-is_good Good = true
-is_good (BadField at) = false
-is_good TooLong = false
+abbrev is_good : Result ⊤ FormError → Bool
+is_good (Ok tt) = true
+is_good (Err (BadField at)) = false
+is_good (Err TooLong) = false
 
-module _ (q : Question) (s buffer : List ℕ) (whole : length buffer ≡ room) (asks : q ≢ question.Unreadable) where
+module _ (q : Question) (s buffer : List ℕ) (whole : length buffer ≡ room) where
   -- the form's line alone
-  refuses : (f : Form) → form_of s ≡ f → is_good f ≡ false → Writes q s buffer (form_text f)
+  refuses : (f : Result ⊤ FormError) → form_of s ≡ f → is_good f ≡ false → Writes (Some q) s buffer (form_text f)
   refuses f e g =
-      subst (λ (v : List ℕ). Writes q s buffer v) (written_bytes buffer (form_text f) whole (omega (arith, form_most f)))
-      (refused asks (λ d. true≢false (sym (ap is_good (sym e ∙ d)) ∙ g)) (ap (λ (x : Form). penned (pen buffer 0) (form_text x)) e))
+      subst (λ (v : List ℕ). Writes (Some q) s buffer v) (written_bytes buffer (form_text f) whole (omega (arith, form_most f)))
+      (refused (λ (n : Some q ≡ None). absurd (cc)) (λ d. true≢false (sym (ap is_good (sym e ∙ d)) ∙ g)) (ap (λ (x : Result ⊤ FormError). penned (pen buffer 0) (form_text x)) e))
 
-  counts : Bytes s → form_of s ≡ Good → TalliedAfter s → Writes q s buffer (recount_text q (ended_of s))
+  counts : Bytes s → form_of s ≡ Ok tt → TalliedAfter s → Writes (Some q) s buffer (recount_text q (ended_of s))
   counts bytes e h =
       let same : book_text q (followed s) ≡ recount_text q (ended_of s) =
       ap (λ (b : Book). book_text q b) (follows_the_moments s bytes e) ∙ text_is_recounted q (counted_of s) (ended_of s) h in
-      subst (λ (v : List ℕ). Writes q s buffer v)
-      (written_bytes buffer (book_text q (followed s)) whole (omega (arith, text_most q (followed s))) ∙ same) (counted asks e refl)
+      subst (λ (v : List ℕ). Writes (Some q) s buffer v)
+      (written_bytes buffer (book_text q (followed s)) whole (omega (arith, text_most q (followed s))) ∙ same) (counted refl e refl)
 
-  by_form : (f : Form) → form_of s ≡ f → Bytes s → (form_of s ≡ Good → TalliedAfter s) → Writes q s buffer (counts_as f q s)
-  by_form Good e bytes h = counts bytes e (h e)
-  by_form (BadField at) e bytes h = refuses (BadField at) e refl
-  by_form TooLong e bytes h = refuses TooLong e refl
-
-abbrev is_asked : Question → Bool
-is_asked question.All = true
-is_asked (question.Pair qq zz) = true
-is_asked question.Unreadable = false
-
-asks : (q : Question) → is_asked q ≡ true → q ≢ question.Unreadable
-asks q e f = true≢false (sym e ∙ ap is_asked f)
+  by_form : (f : Result ⊤ FormError) → form_of s ≡ f → Bytes s → (form_of s ≡ Ok tt → TalliedAfter s) → Writes (Some q) s buffer (counts_as f q s)
+  by_form (Ok tt) e bytes h = counts bytes e (h e)
+  by_form (Err (BadField at)) e bytes h = refuses (Err (BadField at)) e refl
+  by_form (Err TooLong) e bytes h = refuses (Err TooLong) e refl
 
 -- into any buffer, once
-pub counts_prints : (q : Question) (s buffer : List ℕ) → Bytes s → length buffer ≡ room → (form_of s ≡ Good → TalliedAfter s)
+pub counts_prints : (q : Option Question) (s buffer : List ℕ) → Bytes s → length buffer ≡ room → (form_of s ≡ Ok tt → TalliedAfter s)
     → Writes q s buffer (counts_output q s)
 unfolding counts_output
-counts_prints question.All s buffer bytes whole h = by_form question.All s buffer whole (asks question.All refl) (form_of s) refl bytes h
-counts_prints (question.Pair qq zz) s buffer bytes whole h =
-    by_form (question.Pair qq zz) s buffer whole (asks (question.Pair qq zz) refl) (form_of s) refl bytes h
-counts_prints question.Unreadable s buffer bytes whole h = unasked refl
+counts_prints (Some q) s buffer bytes whole h = by_form q s buffer whole (form_of s) refl bytes h
+counts_prints None s buffer bytes whole h = unasked refl

@@ -4,10 +4,10 @@ use mathlib.Core.List.{List}
 use Prim.Native.Nat.{ℕ}
 use Rattle.walk.specs.Field.{Bytes}
 use Rattle.walk.specs.Form.{form_of}
-use Rattle.walk.specs.declared.form.Form.TheVariants.{Good}
+use Rattle.std.specs.Prelude.{Ok}
 use Rattle.walk.proofs.FollowsTheMoments as walk
 use Rattle.tally.specs.Follow.{unused, counted_in, followed, counted_of}
 
-pub follows_the_moments : (s : List ℕ) → Bytes s → form_of s ≡ Good → followed s ≡ counted_of s
+pub follows_the_moments : (s : List ℕ) → Bytes s → form_of s ≡ Ok tt → followed s ≡ counted_of s
 unfolding followed
 follows_the_moments s bytes g = walk.follows_the_moments counted_in s unused bytes g

@@ -7,8 +7,9 @@ use lib.ListN.{length, length-append, length-take}
 use Rattle.laws.proofs.AtMost.{at_most_room}
 use Rattle.pairs.specs.Counts.{tally, records, in_use}
 use Rattle.pairs.specs.Table.{ask_of}
-use Rattle.pairs.specs.declared.Asked.{Asked}
-use Rattle.pairs.specs.declared.Asked.TheVariants.{Counts, NoRecord, OtherLength}
+use Rattle.std.specs.Prelude.{Result, Ok, Err}
+use Rattle.pairs.specs.declared.AskError.{AskError}
+use Rattle.pairs.specs.declared.AskError.TheVariants.{NoRecord, OtherLength}
 use Rattle.pairs.specs.declared.Book.{Book}
 use Rattle.pairs.specs.declared.Pair.{Pair}
 use Rattle.pairs.specs.declared.Tally.{Tally}
@@ -56,10 +57,10 @@ in_use_most b = simp length-take (omega (arith, at_most_room b.counts.used recor
 refused_most : length refused20 ≤ 41
 refused_most = omega (arith, length-append (refused_text ++ decimal_text 20) newline, length-append refused_text (decimal_text 20), decimal_most 20)
 
-answer_most : (qq zz : ℕ) (a : Asked) → length (answer_text qq zz a) ≤ 41
-answer_most qq zz (Counts t) = pair_most qq zz t
-answer_most qq zz NoRecord = refused_most
-answer_most qq zz OtherLength = omega arith
+answer_most : (qq zz : ℕ) (a : Result Tally AskError) → length (answer_text qq zz a) ≤ 41
+answer_most qq zz (Ok t) = pair_most qq zz t
+answer_most qq zz (Err NoRecord) = refused_most
+answer_most qq zz (Err OtherLength) = omega arith
 
 pub text_most : (q : Question) (b : Book) → length (book_text q b) ≤ 64 * 41 + 42
 text_most question.All b =
@@ -71,7 +72,6 @@ text_most question.All b =
       others_most b.counts.others,
     )
 text_most (question.Pair qq zz) b = omega (arith, answer_most qq zz (ask_of b.table b.counts qq zz))
-text_most question.Unreadable b = omega arith
 
 -- the longest lines: `FF FE taken 4294967295 failed 4294967295` and the same of others
 pub longest : length (pair_text 0xFF 0xFE (tally 4294967295 4294967295)) ≡ 41

@@ -12,7 +12,8 @@ use Rattle.pairs.specs.Recount.{among, pairs_of, recorded, how_many, tally_of, r
 use Rattle.scenario.specs.Pen.{hex_digit, hex_text, last_digit, digits_of, decimal_text}
 use Rattle.tally.specs.Lines.{tally_text, pair_text, others_text, records_text}
 use Rattle.tally.specs.Output.{lines_from, counts_output}
-use Rattle.tally.specs.declared.ask.Question.TheVariants.{All, Pair, Unreadable}
+use Rattle.tally.specs.declared.ask.Question.TheVariants.{All, Pair}
+use Rattle.std.specs.Prelude.{Some, None}
 
 -- `10 08 taken 3 failed 1`
 pub a_pair : pair_text 0x10 0x08 (tally 3 1)
@@ -26,21 +27,21 @@ pub no_others : others_text (tally 0 0)
 unfolding others_text tally_text decimal_text digits_of last_digit
 no_others = refl
 
-pub empty_counts_nothing : counts_output All [] ≡ others_text (tally 0 0)
+pub empty_counts_nothing : counts_output (Some All) [] ≡ others_text (tally 0 0)
 unfolding counts_output form_of form_from moments moments_from told_buses lines_from ended_in records_of others_of tally_of recorded pairs_of how_many records_text
 empty_counts_nothing = refl
 
 -- `refused 20`
-pub empty_has_no_pair : counts_output (Pair 0x10 0x08) [] ≡ 114 ∷ 101 ∷ 102 ∷ 117 ∷ 115 ∷ 101 ∷ 100 ∷ 32 ∷ 50 ∷ 48 ∷ 10 ∷ []
+pub empty_has_no_pair : counts_output (Some (Pair 0x10 0x08)) [] ≡ 114 ∷ 101 ∷ 102 ∷ 117 ∷ 115 ∷ 101 ∷ 100 ∷ 32 ∷ 50 ∷ 48 ∷ 10 ∷ []
 unfolding counts_output form_of form_from moments moments_from told_buses lines_from ended_in answer_of recorded pairs_of among decimal_text digits_of last_digit
 empty_has_no_pair = refl
 
 -- a tag and nothing behind it: `refused 14 0`
-pub bad_form_alone : counts_output All (0x01 ∷ []) ≡ 114 ∷ 101 ∷ 102 ∷ 117 ∷ 115 ∷ 101 ∷ 100 ∷ 32 ∷ 49 ∷ 52 ∷ 32 ∷ 48 ∷ 10 ∷ []
+pub bad_form_alone : counts_output (Some All) (0x01 ∷ []) ≡ 114 ∷ 101 ∷ 102 ∷ 117 ∷ 115 ∷ 101 ∷ 100 ∷ 32 ∷ 49 ∷ 52 ∷ 32 ∷ 48 ∷ 10 ∷ []
 unfolding counts_output form_of form_from field_at decimal_text digits_of last_digit
 bad_form_alone = refl
 
 -- and nothing at all where the arguments cannot be read
-pub unreadable_alone : counts_output Unreadable (0x01 ∷ []) ≡ []
+pub unreadable_alone : counts_output None (0x01 ∷ []) ≡ []
 unfolding counts_output
 unreadable_alone = refl

@@ -1,5 +1,5 @@
 -- What is asked, by the table that is kept: no rule, but what the code is proved against. Assumes nothing.
-use Rattle.std.specs.Prelude.{List, [], ℕ, take}
+use Rattle.std.specs.Prelude.{List, [], ℕ, take, Option, Some, None}
 use Rattle.pairs.specs.Counts.{in_use}
 use Rattle.pairs.specs.Table.{ask_of}
 use Rattle.pairs.specs.declared.Book.{Book}
@@ -18,4 +18,8 @@ all_of b = all_text (records_in b) b.counts.others
 abbrev pub book_text : Question → Book → List ℕ
 book_text question.All b = all_of b
 book_text (question.Pair qq zz) b = answer_text qq zz (ask_of b.table b.counts qq zz)
-book_text question.Unreadable b = []
+
+-- where nothing is asked, nothing
+abbrev pub asked_text : Option Question → Book → List ℕ
+asked_text (Some q) b = book_text q b
+asked_text None b = []

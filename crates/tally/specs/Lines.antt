@@ -1,7 +1,7 @@
 -- The bytes of the lines of `counts` (02, E9). Assumes nothing.
-use Rattle.std.specs.Prelude.{List, [], ◌∷◌, ◌++◌, ℕ}
-use Rattle.pairs.specs.declared.Asked.{Asked}
-use Rattle.pairs.specs.declared.Asked.TheVariants.{Counts, NoRecord, OtherLength}
+use Rattle.std.specs.Prelude.{List, [], ◌∷◌, ◌++◌, ℕ, Result, Ok, Err}
+use Rattle.pairs.specs.declared.AskError.{AskError}
+use Rattle.pairs.specs.declared.AskError.TheVariants.{NoRecord, OtherLength}
 use Rattle.pairs.specs.declared.Pair.{Pair}
 use Rattle.pairs.specs.declared.Tally.{Tally}
 use Rattle.scenario.specs.Lines.{newline, refused_text}
@@ -45,7 +45,7 @@ abbrev pub refused20 : List ℕ
 refused20 = refused_text ++ decimal_text 20 ++ newline
 
 -- a pair's line alone; no table here has another length
-abbrev pub answer_text : ℕ → ℕ → Asked → List ℕ
-answer_text qq zz (Counts t) = pair_text qq zz t
-answer_text qq zz NoRecord = refused20
-answer_text qq zz OtherLength = []
+abbrev pub answer_text : ℕ → ℕ → Result Tally AskError → List ℕ
+answer_text qq zz (Ok t) = pair_text qq zz t
+answer_text qq zz (Err NoRecord) = refused20
+answer_text qq zz (Err OtherLength) = []

@@ -1,14 +1,15 @@
 -- The whole output of `counts` as a function of what is asked and of the scenario: a recount of all lines told, and nothing of a
 -- table (02, E9). Assumes nothing.
-use Rattle.std.specs.Prelude.{List, [], ◌∷◌, ℕ}
+use Rattle.std.specs.Prelude.{List, [], ◌∷◌, ℕ, Option, Some, None}
 use Rattle.station.specs.Events.{Event}
 use Rattle.bus.specs.Events.{events}
 use Rattle.bus.specs.declared.bus.Bus.{Bus}
 use Rattle.walk.specs.Follow.{told_buses}
 use Rattle.walk.specs.Form.{form_of}
 use Rattle.walk.specs.Moments.{moments}
-use Rattle.walk.specs.declared.form.Form.{Form}
-use Rattle.walk.specs.declared.form.Form.TheVariants.{Good, BadField, TooLong}
+use Rattle.std.specs.Prelude.{Result, ⊤, Ok, Err}
+use Rattle.walk.specs.declared.form.FormError.{FormError}
+use Rattle.walk.specs.declared.form.FormError.TheVariants.{BadField, TooLong}
 use Rattle.pairs.specs.Ended.{in_front, ended_in}
 use Rattle.pairs.specs.Hear.{events_in}
 use Rattle.pairs.specs.Recount.{records_of, others_of, answer_of}
@@ -35,16 +36,14 @@ ended_of s = ended_in (lines_told s) []
 abbrev pub recount_text : Question → List Transfer → List ℕ
 recount_text question.All xs = all_text (records_of xs) (others_of xs)
 recount_text (question.Pair qq zz) xs = answer_text qq zz (answer_of xs qq zz)
-recount_text question.Unreadable xs = []
 
 -- or the line of a bad form, alone
-abbrev pub counts_as : Form → Question → List ℕ → List ℕ
-counts_as Good q s = recount_text q (ended_of s)
-counts_as (BadField at) q s = form_text (BadField at)
-counts_as TooLong q s = form_text TooLong
+abbrev pub counts_as : Result ⊤ FormError → Question → List ℕ → List ℕ
+counts_as (Ok tt) q s = recount_text q (ended_of s)
+counts_as (Err (BadField at)) q s = form_text (Err (BadField at))
+counts_as (Err TooLong) q s = form_text (Err TooLong)
 
 -- arguments that cannot be read ask nothing
-unfoldable pub counts_output : Question → List ℕ → List ℕ
-counts_output question.All s = counts_as (form_of s) question.All s
-counts_output (question.Pair qq zz) s = counts_as (form_of s) (question.Pair qq zz) s
-counts_output question.Unreadable s = []
+unfoldable pub counts_output : Option Question → List ℕ → List ℕ
+counts_output (Some q) s = counts_as (form_of s) q s
+counts_output None s = []

@@ -1,82 +1,79 @@
 // The counts as lines, in a lent buffer that has room for all of them.
 ghost use Rattle.std.specs.Prelude.{◌≡◌};
-ghost use Rattle.scenario.specs.Pen.{pen, penned};
-ghost use Rattle.tally.specs.Lines.{tally_text, pair_text, others_text, records_text, answer_text};
-ghost use Rattle.tally.specs.Book.{records_in, all_of, book_text};
+ghost use Rattle.scenario.specs.Pen.{penned};
+ghost use Rattle.tally.specs.Lines.{tally_text, pair_text, records_text, answer_text};
+ghost use Rattle.tally.specs.Book.{all_of, book_text, asked_text};
 
 use crate::ask::Question;
-use pairs::{Asked, Book, RECORDS, Tally};
-use scenario::pen;
-use scenario::pen::ROOM;
+use pairs::{AskError, Book, Pair, Tally};
+use scenario::pen::Pen;
 
 // ` taken 3 failed 1`
-fn tally(out: &mut [u8; ROOM], at: usize, t: Tally) -> usize
-    ensures { pen out.new result ≡ penned (pen out.old at) (tally_text t) }
+fn tally(out: &mut Pen, t: Tally)
+    ensures { out.new ≡ penned out.old (tally_text t) }
 {
-    let a = pen::word(out, at, b" taken ");
-    let b = pen::decimal(out, a, t.taken);
-    let c = pen::word(out, b, b" failed ");
-    let d = pen::decimal(out, c, t.failed);
-    pen::word(out, d, b"\n")
+    out.word(b" taken ");
+    out.decimal(t.taken);
+    out.word(b" failed ");
+    out.decimal(t.failed);
+    out.word(b"\n");
 }
 
 // `10 08 taken 3 failed 1`
-fn pair(out: &mut [u8; ROOM], at: usize, qq: u8, zz: u8, t: Tally) -> usize
-    ensures { pen out.new result ≡ penned (pen out.old at) (pair_text qq zz t) }
+fn pair(out: &mut Pen, p: Pair)
+    ensures { out.new ≡ penned out.old (pair_text p.qq p.zz p.tally) }
 {
-    let to = pen::byte(out, at, qq);
-    let end = pen::hex(out, to, zz);
-    tally(out, end, t)
+    out.byte(p.qq);
+    out.hex(p.zz);
+    tally(out, p.tally);
 }
 
-// A line for each record in use, in table order.
-fn records(out: &mut [u8; ROOM], at: usize, b: Book) -> usize
-    ensures { pen out.new result ≡ penned (pen out.old at) (records_text (records_in b)) }
+// A line for each record, in table order.
+fn records(out: &mut Pen, ps: &[Pair])
+    ensures { out.new ≡ penned out.old (records_text ps.now) }
 {
-    let c = b.counts;
-    let table = b.table;
-    let n = laws::at_most(c.used, RECORDS);
-    let mut to = at;
-    let mut i: usize = 0;
-    while i < n {
-        let p = table[i];
-        to = pair(out, to, p.qq, p.zz, p.tally);
-        i += 1;
+    for p in ps {
+        pair(out, *p);
     }
-    to
 }
 
-// And last the others.
-fn all(out: &mut [u8; ROOM], b: Book) -> usize
-    ensures { pen out.new result ≡ penned (pen out.old 0) (all_of b) }
+// The records in use, and last the others.
+fn all(out: &mut Pen, b: &Book)
+    ensures { out.new ≡ penned out.old (all_of b.now) }
 {
-    let to = records(out, 0, b);
-    let end = pen::word(out, to, b"others");
-    tally(out, end, b.counts.others)
+    records(out, b.records());
+    out.word(b"others");
+    tally(out, b.counts.others);
 }
 
 // A pair's line alone, or `refused 20`.
-fn answer(out: &mut [u8; ROOM], qq: u8, zz: u8, a: Asked) -> usize
-    ensures { pen out.new result ≡ penned (pen out.old 0) (answer_text qq zz a) }
+#[tactic(auto, using(scenario::proofs::Written::penned_none), unfolding(scenario::specs::Pen::decimal_text, scenario::specs::Pen::digits_of, scenario::specs::Pen::last_digit))]
+fn answer(out: &mut Pen, qq: u8, zz: u8, a: Result<Tally, AskError>)
+    ensures { out.new ≡ penned out.old (answer_text qq zz a) }
 {
     match a {
-        Asked::Counts(t) => pair(out, 0, qq, zz, t),
-        Asked::NoRecord => pen::word(out, 0, b"refused 20\n"),
-        Asked::OtherLength => 0,
+        Ok(tally) => pair(out, Pair { qq, zz, tally }),
+        Err(AskError::NoRecord) => out.word(b"refused 20\n"),
+        // A book's table has 64 records.
+        Err(AskError::OtherLength) => {}
     }
 }
 
-// What is asked, into a buffer.
-pub fn text(out: &mut [u8; ROOM], q: Question, b: Book) -> usize
-    ensures { pen out.new result ≡ penned (pen out.old 0) (book_text q b) }
+// What is asked, into a buffer; nothing where nothing is.
+pub fn text(out: &mut Pen, q: Option<Question>, b: &Book)
+    ensures { out.new ≡ penned out.old (asked_text q b.now) }
+{
+    match q {
+        Some(q) => asked(out, q, b),
+        None => {}
+    }
+}
+
+fn asked(out: &mut Pen, q: Question, b: &Book)
+    ensures { out.new ≡ penned out.old (book_text q b.now) }
 {
     match q {
         Question::All => all(out, b),
-        Question::Pair(qq, zz) => {
-            let c = b.counts;
-            let t = b.table;
-            answer(out, qq, zz, pairs::ask_in(t, c, qq, zz))
-        }
-        Question::Unreadable => 0,
+        Question::Pair(qq, zz) => answer(out, qq, zz, pairs::ask(&b.table, b.counts, qq, zz)),
     }
 }

@@ -1,7 +1,6 @@
 -- Reading goes by how many bytes there are. Assumes nothing.
-use Rattle.std.proofs.Common.{◌≡◌, ℕ, List, [], ◌∷◌, length, get_or, refl, arith}
+use Rattle.std.proofs.Common.{◌≡◌, ℕ, List, [], ◌∷◌, length, get_or, refl, arith, None}
 use Rattle.value.specs.Read.{read_one, read_two, read_as}
-use Rattle.value.specs.declared.read.Reading.TheVariants.{NoValue}
 use Rattle.value.specs.declared.value.DataType.{DataType}
 
 pub of_one : (t : DataType) (bs : List ℕ) → length bs ≡ 1 → read_as t bs ≡ read_one t (get_or bs 0 0)
@@ -17,7 +16,7 @@ of_two t (b ∷ []) h = absurd (omega arith)
 of_two t (b ∷ c ∷ []) h = refl
 of_two t (b ∷ c ∷ d ∷ rest) h = absurd (omega arith)
 
-pub of_others : (t : DataType) (bs : List ℕ) → (length bs ≡ 1 → ⊥) → (length bs ≡ 2 → ⊥) → read_as t bs ≡ NoValue
+pub of_others : (t : DataType) (bs : List ℕ) → (length bs ≡ 1 → ⊥) → (length bs ≡ 2 → ⊥) → read_as t bs ≡ None
 unfolding read_as
 of_others t [] g h = refl
 of_others t (b ∷ []) g h = absurd (g refl)

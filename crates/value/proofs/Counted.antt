@@ -1,6 +1,6 @@
 -- `count_of` counts exactly: so many steps up or down where the float is that number, and none where it is no such number.
 -- Assumes nothing.
-use Rattle.std.proofs.Common.{◌≡◌, ℕ, ◌+◌, ◌*◌, ◌^◌, ◌<◌, ◌≤◌, Bool, true, false, cond, not, T, ltb, ◌⊎◌, pos, sym, refl, ap, ◌∙◌, subst, inl, inr, true≢false, eq-zero-or-pos, mul-lt-mul_of_pos_right, mul-pos, zero-mul, arith, le→leb, pow_pos, ltb-true, le-ltb, lt-ltb}
+use Rattle.std.proofs.Common.{◌≡◌, ℕ, ◌+◌, ◌*◌, ◌^◌, ◌<◌, ◌≤◌, Bool, true, false, cond, not, T, ltb, ◌⊎◌, pos, sym, refl, ap, ◌∙◌, subst, inl, inr, true≢false, eq-zero-or-pos, mul-lt-mul_of_pos_right, mul-pos, zero-mul, arith, le→leb, pow_pos, ltb-true, le-ltb, lt-ltb, Option, Some, None}
 use lib.Ieee.{Float, nan, inf, fin, binary32, up, down, round, of_int, in_float, to_unsigned, mul, neg, eq, lt}
 use lib.Ieee.Back.{round_whole, unsigned_back}
 use lib.Ieee.Bits.{is_true}
@@ -8,9 +8,7 @@ use lib.Ieee.Exact.{HasValue}
 use lib.Ieee.Fits.{down_pos}
 use Rattle.value.specs.Steps.{per, steps_of, size_of, upward, downward, count_of}
 use Rattle.value.specs.declared.steps.Count.{Count}
-use Rattle.value.specs.declared.steps.Count.TheVariants.{Up, Down, Uneven}
-use Rattle.value.specs.declared.steps.Size.{Size}
-use Rattle.value.specs.declared.steps.Size.TheVariants.{Steps, NoSteps}
+use Rattle.value.specs.declared.steps.Count.TheVariants.{Up, Down}
 use Rattle.value.proofs.Exact.{Number, product_is, steps_are, negated, equal_then, number_then}
 
 abbrev zero_float : Float
@@ -18,12 +16,12 @@ zero_float = fin false 0 (pos 0)
 
 -- ---- a size that is found is right
 
-abbrev Sized : ℕ → Float → Size → Type 0
-Sized k x (Steps n) = (n < 16777216) × Number x false n (2 ^ k)
-Sized k x NoSteps = Unit {0}
+abbrev Sized : ℕ → Float → Option ℕ → Type 0
+Sized k x (Some n) = (n < 16777216) × Number x false n (2 ^ k)
+Sized k x None = Unit {0}
 
 tests_right : (k n : ℕ) (x : Float) → k ≤ 149 → (a b c d : Bool) → ltb n 16777216 ≡ c → eq (steps_of (per k) n) x ≡ d
-    → Sized k x (cond a (cond b (cond c (cond d (Steps n) NoSteps) NoSteps) NoSteps) NoSteps)
+    → Sized k x (cond a (cond b (cond c (cond d (Some n) None) None) None) None)
 tests_right k n x K true true true true e f =
     let N : n < 16777216 = ltb-true n 16777216 e in
     (N, equal_then (steps_of (per k) n) x false n k (steps_are k n K N) (subst T (sym f) tt))
@@ -62,20 +60,20 @@ unfolding of_int in_float
 cut_back n l = (unsigned_back binary32 64 n (le→leb n (2 ^ 24) (omega arith)) (omega arith)).1
 
 passes : (k n : ℕ) (x y : Float) → mul binary32 x (per k) ≡ y → lt (fin true 1 (pos 0)) y ≡ true → lt y (fin false 1 (pos 64)) ≡ true
-    → to_unsigned 64 y ≡ n → n < 16777216 → T (eq (steps_of (per k) n) x) → size_of (per k) x ≡ Steps n
+    → to_unsigned 64 y ≡ n → n < 16777216 → T (eq (steps_of (per k) n) x) → size_of (per k) x ≡ Some n
 unfolding size_of
 passes k n x y p a b c l e = simp (p, a, b, c, lt-ltb n 16777216 l, is_true (eq (steps_of (per k) n) x) e)
 
 minus_zero_product : (n : ℕ) → n ≡ 0 → round binary32 true n 1 ≡ fin true 0 (pos 0)
 minus_zero_product n z = ap (λ (q : ℕ). round binary32 true q 1) z ∙ (unfold round in refl)
 
-pub size_found : (k n : ℕ) (x : Float) → k ≤ 149 → n < 16777216 → Number x false n (2 ^ k) → size_of (per k) x ≡ Steps n
+pub size_found : (k n : ℕ) (x : Float) → k ≤ 149 → n < 16777216 → Number x false n (2 ^ k) → size_of (per k) x ≡ Some n
 size_found k n x K l g = go g.0 g.1 g.2
   where
     e : T (eq (steps_of (per k) n) x)
     e = number_then (steps_of (per k) n) x false n k (steps_are k n K l) g
 
-    go : (t : Bool) → HasValue x t n (2 ^ k) → (t ≡ false) ⊎ (n ≡ 0) → size_of (per k) x ≡ Steps n
+    go : (t : Bool) → HasValue x t n (2 ^ k) → (t ≡ false) ⊎ (n ≡ 0) → size_of (per k) x ≡ Some n
     go false h s =
         let w : HasValue (round binary32 false n 1) false n 1 = round_whole binary32 false n (omega arith) in
         passes k n x (round binary32 false n 1) (product_is x false n k h) (above_minus_one _ n w) (below_top _ n (omega arith) w) (cut_back n l) l e
@@ -121,20 +119,20 @@ is_below (fin true m e) n k h s = lt-ltb 0 (m * up e * 1 + 0 * 1 * down e) (omeg
 -- ---- the count
 
 -- x is n / 2 ^ k, and not below zero
-pub count_up : (k n : ℕ) (x : Float) → k ≤ 149 → n < 16777216 → Number x false n (2 ^ k) → count_of (per k) x ≡ Up n
+pub count_up : (k n : ℕ) (x : Float) → k ≤ 149 → n < 16777216 → Number x false n (2 ^ k) → count_of (per k) x ≡ Some (Up n)
 unfolding count_of
 count_up k n x K l g = simp (not_below x n k g, size_found k n x K l g)
 
 -- x is -n / 2 ^ k, and below zero
-pub count_down : (k n : ℕ) (x : Float) → k ≤ 149 → n < 16777216 → HasValue x true n (2 ^ k) → 0 < n → count_of (per k) x ≡ Down n
+pub count_down : (k n : ℕ) (x : Float) → k ≤ 149 → n < 16777216 → HasValue x true n (2 ^ k) → 0 < n → count_of (per k) x ≡ Some (Down n)
 unfolding count_of
 count_down k n x K l h p = simp (is_below x n k h p, size_found k n (neg x) K l (false, negated x true n (2 ^ k) h, inl refl))
 
 -- and nothing else is counted so
-abbrev pub Counted : ℕ → Float → Count → Type 0
-Counted k x (Up n) = (n < 16777216) × Number x false n (2 ^ k)
-Counted k x (Down n) = (n < 16777216) × (0 < n) × HasValue x true n (2 ^ k)
-Counted k x Uneven = Unit {0}
+abbrev pub Counted : ℕ → Float → Option Count → Type 0
+Counted k x (Some (Up n)) = (n < 16777216) × Number x false n (2 ^ k)
+Counted k x (Some (Down n)) = (n < 16777216) × (0 < n) × HasValue x true n (2 ^ k)
+Counted k x None = Unit {0}
 
 twice_negated : (x : Float) (s : Bool) (n c : ℕ) → HasValue (neg x) s n c → HasValue x (not s) n c
 unfolding neg
@@ -157,13 +155,13 @@ count_right k x K = go (lt x zero_float) refl
         more (inr p) (inl f) = (p, subst (λ (r : Bool). HasValue x (not r) n (2 ^ k)) f (twice_negated x t n (2 ^ k) h))
         more (inr p) (inr z) = absurd (omega arith)
 
-    below : lt x zero_float ≡ true → (r : Size) → Sized k (neg x) r → Counted k x (downward r)
-    below b NoSteps s = tt
-    below b (Steps n) s = let m = minus n b s.1.0 s.1.1 s.1.2 in (s.0, m.0, m.1)
+    below : lt x zero_float ≡ true → (r : Option ℕ) → Sized k (neg x) r → Counted k x (downward r)
+    below b None s = tt
+    below b (Some n) s = let m = minus n b s.1.0 s.1.1 s.1.2 in (s.0, m.0, m.1)
 
-    above : (r : Size) → Sized k x r → Counted k x (upward r)
-    above NoSteps s = tt
-    above (Steps n) s = s
+    above : (r : Option ℕ) → Sized k x r → Counted k x (upward r)
+    above None s = tt
+    above (Some n) s = s
 
     go : (b : Bool) → lt x zero_float ≡ b → Counted k x (cond b (downward (size_of (per k) (neg x))) (upward (size_of (per k) x)))
     go true b = below b (size_of (per k) (neg x)) (size_right k (neg x) K)

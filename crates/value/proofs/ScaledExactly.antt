@@ -1,6 +1,6 @@
 -- For every code that is read as a float, the float times 2, 256 or 16 is the coded number exactly (02, E2), and every code of DATA1c,
 -- DATA2b and DATA2c but the missing one is read as a float. Assumes nothing.
-use Rattle.std.proofs.Common.{◌≡◌, ℕ, ◌+◌, ◌*◌, ◌^◌, ◌<◌, ◌≤◌, false, T, ◌≢◌, List, [], ◌∷◌, pos, subst, inl, inr, arith, lit≤}
+use Rattle.std.proofs.Common.{◌≡◌, ℕ, ◌+◌, ◌*◌, ◌^◌, ◌<◌, ◌≤◌, false, T, ◌≢◌, List, [], ◌∷◌, pos, subst, inl, inr, arith, lit≤, Option, Some, None}
 use lib.Ieee.{Float, binary32, round, of_int, mul, le, fits}
 use lib.Ieee.Back.{round_whole}
 use lib.Ieee.Exact.{HasValue}
@@ -8,10 +8,9 @@ use lib.Ieee.Order.{le_of_values}
 use Rattle.value.specs.Claims.{Bytes, signed, coded, places, Exactly, GivesFloat}
 use Rattle.value.specs.Read.{read_bcd, percent_of, read_share, signed_steps, read_signed, read_as}
 use Rattle.value.specs.Steps.{per}
-use Rattle.value.specs.declared.read.Reading.{Reading}
-use Rattle.value.specs.declared.read.Reading.TheVariants.{Of, NoValue}
 use Rattle.value.specs.declared.value.DataType.{DataType}
 use Rattle.value.specs.declared.value.DataType.TheVariants.{Bcd, Data1c, Data2b, Data2c}
+use Rattle.value.specs.declared.value.Value.{Value}
 use Rattle.value.specs.declared.value.Value.TheVariants.{Percent, Temperature}
 use Rattle.value.proofs.Exact.{product_is}
 use Rattle.value.proofs.Halves.{percent_is, percent_fits, read_half, ShareRead, share_read}
@@ -23,7 +22,7 @@ use Rattle.value.proofs.Signed.{SignedRead, signed_read, signed_scaled, signed_f
 abbrev Wrong : Type 0
 Wrong = ◌≡◌ {A = ℕ} 0 1
 
-bcd_gives : (b : ℕ) (r : Reading) (x : Float) → BcdRead b r → GivesFloat r x → ⊥
+bcd_gives : (b : ℕ) (r : Option Value) (x : Float) → BcdRead b r → GivesFloat r x → ⊥
 bcd_gives b r x (BcdRead.digits tens ones t o e) (inl g) = let z : Wrong = cc in omega arith
 bcd_gives b r x (BcdRead.digits tens ones t o e) (inr g) = let z : Wrong = cc in omega arith
 bcd_gives b r x (BcdRead.missing e) (inl g) = let z : Wrong = cc in omega arith
@@ -31,7 +30,7 @@ bcd_gives b r x (BcdRead.missing e) (inr g) = let z : Wrong = cc in omega arith
 bcd_gives b r x (BcdRead.none f) (inl g) = let z : Wrong = cc in omega arith
 bcd_gives b r x (BcdRead.none f) (inr g) = let z : Wrong = cc in omega arith
 
-share_gives : (b : ℕ) (r : Reading) (x : Float) → ShareRead b r → GivesFloat r x → (b ≤ 200) × (percent_of b ≡ x)
+share_gives : (b : ℕ) (r : Option Value) (x : Float) → ShareRead b r → GivesFloat r x → (b ≤ 200) × (percent_of b ≡ x)
 share_gives b r x (ShareRead.share l) (inl g) = (l, (cc))
 share_gives b r x (ShareRead.share l) (inr g) = let z : Wrong = cc in absurd (omega arith)
 share_gives b r x (ShareRead.missing e) (inl g) = let z : Wrong = cc in absurd (omega arith)
@@ -39,13 +38,13 @@ share_gives b r x (ShareRead.missing e) (inr g) = let z : Wrong = cc in absurd (
 share_gives b r x (ShareRead.none l e) (inl g) = let z : Wrong = cc in absurd (omega arith)
 share_gives b r x (ShareRead.none l e) (inr g) = let z : Wrong = cc in absurd (omega arith)
 
-signed_gives : (k n : ℕ) (r : Reading) (x : Float) → SignedRead k n r → GivesFloat r x → (n ≢ 32768) × (signed_steps (per k) n ≡ x)
+signed_gives : (k n : ℕ) (r : Option Value) (x : Float) → SignedRead k n r → GivesFloat r x → (n ≢ 32768) × (signed_steps (per k) n ≡ x)
 signed_gives k n r x (SignedRead.number e) (inl g) = let z : Wrong = cc in absurd (omega arith)
 signed_gives k n r x (SignedRead.number e) (inr g) = (e, (cc))
 signed_gives k n r x (SignedRead.missing e) (inl g) = let z : Wrong = cc in absurd (omega arith)
 signed_gives k n r x (SignedRead.missing e) (inr g) = let z : Wrong = cc in absurd (omega arith)
 
-none_gives : (x : Float) → GivesFloat NoValue x → ⊥
+none_gives : (x : Float) → GivesFloat None x → ⊥
 none_gives x (inl g) = let z : Wrong = cc in omega arith
 none_gives x (inr g) = let z : Wrong = cc in omega arith
 
@@ -87,25 +86,25 @@ scaled_exactly t (a ∷ b ∷ c ∷ rest) x B g = absurd (none_gives x g)
 
 -- ---- every code but the missing one
 
-pub data1c_float : (b : ℕ) → b ≤ 200 → (x : Float) × (read_as Data1c (b ∷ []) ≡ Of (Percent x))
+pub data1c_float : (b : ℕ) → b ≤ 200 → (x : Float) × (read_as Data1c (b ∷ []) ≡ Some (Percent x))
 unfolding read_as
 data1c_float b h = (percent_of b, read_half b h)
 
-pub data2b_float : (low high : ℕ) → low + 256 * high ≢ 0x8000 → (x : Float) × (read_as Data2b (low ∷ high ∷ []) ≡ Of (Temperature x))
+pub data2b_float : (low high : ℕ) → low + 256 * high ≢ 0x8000 → (x : Float) × (read_as Data2b (low ∷ high ∷ []) ≡ Some (Temperature x))
 unfolding read_as
 data2b_float low high h = (signed_steps (per 8) (low + 256 * high), read_number 8 low high h)
 
-pub data2c_float : (low high : ℕ) → low + 256 * high ≢ 0x8000 → (x : Float) × (read_as Data2c (low ∷ high ∷ []) ≡ Of (Temperature x))
+pub data2c_float : (low high : ℕ) → low + 256 * high ≢ 0x8000 → (x : Float) × (read_as Data2c (low ∷ high ∷ []) ≡ Some (Temperature x))
 unfolding read_as
 data2c_float low high h = (signed_steps (per 4) (low + 256 * high), read_number 4 low high h)
 
 -- ---- no percentage is above 100
 
-signed_no_percent : (k n : ℕ) (r : Reading) (x : Float) → SignedRead k n r → r ≡ Of (Percent x) → ⊥
+signed_no_percent : (k n : ℕ) (r : Option Value) (x : Float) → SignedRead k n r → r ≡ Some (Percent x) → ⊥
 signed_no_percent k n r x (SignedRead.number e) g = let z : Wrong = cc in omega arith
 signed_no_percent k n r x (SignedRead.missing e) g = let z : Wrong = cc in omega arith
 
-pub percent_from : (t : DataType) (bs : List ℕ) (x : Float) → read_as t bs ≡ Of (Percent x) → (b : ℕ) × (b ≤ 200) × (percent_of b ≡ x)
+pub percent_from : (t : DataType) (bs : List ℕ) (x : Float) → read_as t bs ≡ Some (Percent x) → (b : ℕ) × (b ≤ 200) × (percent_of b ≡ x)
 unfolding read_as
 percent_from t [] x e = absurd (none_gives x (inl e))
 percent_from Bcd (b ∷ []) x e = absurd (bcd_gives b (read_bcd b) x (bcd_read b) (inl e))
@@ -119,7 +118,7 @@ percent_from Data2c (low ∷ high ∷ []) x e = absurd (signed_no_percent 4 (low
 percent_from t (a ∷ b ∷ c ∷ rest) x e = absurd (none_gives x (inl e))
 
 -- as the machine compares floats
-pub at_most_a_hundred : (t : DataType) (bs : List ℕ) (x : Float) → read_as t bs ≡ Of (Percent x) → T (le x (of_int binary32 (pos 100)))
+pub at_most_a_hundred : (t : DataType) (bs : List ℕ) (x : Float) → read_as t bs ≡ Some (Percent x) → T (le x (of_int binary32 (pos 100)))
 unfolding of_int
 at_most_a_hundred t bs x e =
     let g = percent_from t bs x e in

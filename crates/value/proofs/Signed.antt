@@ -1,5 +1,5 @@
 -- Signed numbers of 16 bits in steps of 1 / 2 ^ k: read, written, and back. DATA2b is k = 8, DATA2c is k = 4. Assumes nothing.
-use Rattle.std.proofs.Common.{◌≡◌, ℕ, suc, ◌+◌, ◌-◌, ◌*◌, ◌/◌, ◌%◌, ◌^◌, ◌<◌, ◌≤◌, Bool, true, false, cond, T, eqb, ltb, ◌≢◌, ℤ, pos, negsuc, sym, refl, ap, ◌∙◌, subst, inl, arith, ltb-false, ltb-true, le-ltb, lt-ltb, eqb-true}
+use Rattle.std.proofs.Common.{◌≡◌, ℕ, suc, ◌+◌, ◌-◌, ◌*◌, ◌/◌, ◌%◌, ◌^◌, ◌<◌, ◌≤◌, Bool, true, false, cond, T, eqb, ltb, ◌≢◌, ℤ, pos, negsuc, sym, refl, ap, ◌∙◌, subst, inl, arith, ltb-false, ltb-true, le-ltb, lt-ltb, eqb-true, Option, Some, None}
 use borrow.Author.Tests.{eqb-false}
 use lib.Ieee.{Float, binary32, of_int, mul, neg, fits}
 use lib.Ieee.Exact.{HasValue}
@@ -8,13 +8,12 @@ use Rattle.value.specs.Claims.{signed, Exactly, IsNumber, plain_float}
 use Rattle.value.specs.Read.{signed_steps, read_signed}
 use Rattle.value.specs.Steps.{per, steps_of, count_of}
 use Rattle.value.specs.Write.{two, signed_of}
-use Rattle.value.specs.declared.read.Reading.{Reading}
-use Rattle.value.specs.declared.read.Reading.TheVariants.{Of}
 use Rattle.value.specs.declared.steps.Count.{Count}
-use Rattle.value.specs.declared.steps.Count.TheVariants.{Up, Down, Uneven}
+use Rattle.value.specs.declared.steps.Count.TheVariants.{Up, Down}
+use Rattle.value.specs.declared.value.Value.{Value}
 use Rattle.value.specs.declared.value.Value.TheVariants.{Temperature, Missing}
 use Rattle.value.specs.declared.write.Code.{Code}
-use Rattle.value.specs.declared.write.Code.TheVariants.{One, Two, NoCode}
+use Rattle.value.specs.declared.write.Code.TheVariants.{One, Two}
 use Rattle.value.proofs.Counted.{Counted, count_up, count_down, count_right}
 use Rattle.value.proofs.Exact.{Number, product_is, steps_are, negated}
 use Rattle.value.proofs.Unique.{comes_back}
@@ -36,23 +35,23 @@ joined n h =
 
 -- ---- what is read
 
-pub data SignedRead (k n : ℕ) : Reading → Type 0 where
-  number : n ≢ 32768 → SignedRead k n (Of (Temperature (signed_steps (per k) n)))
-  missing : n ≡ 32768 → SignedRead k n (Of Missing)
+pub data SignedRead (k n : ℕ) : Option Value → Type 0 where
+  number : n ≢ 32768 → SignedRead k n (Some (Temperature (signed_steps (per k) n)))
+  missing : n ≡ 32768 → SignedRead k n (Some Missing)
 
 pub signed_read : (k low high : ℕ) → SignedRead k (low + 256 * high) (read_signed (per k) low high)
 unfolding read_signed
 signed_read k low high = go (eqb (low + 256 * high) 32768) refl
   where
     go : (m : Bool) → eqb (low + 256 * high) 32768 ≡ m
-        → SignedRead k (low + 256 * high) (cond m (Of Missing) (Of (Temperature (signed_steps (per k) (low + 256 * high)))))
+        → SignedRead k (low + 256 * high) (cond m (Some Missing) (Some (Temperature (signed_steps (per k) (low + 256 * high)))))
     go true e = missing (eqb-true (low + 256 * high) 32768 e)
     go false e = number (eqb-false (low + 256 * high) 32768 e)
 
-pub read_number : (k low high : ℕ) → low + 256 * high ≢ 32768 → read_signed (per k) low high ≡ Of (Temperature (signed_steps (per k) (low + 256 * high)))
+pub read_number : (k low high : ℕ) → low + 256 * high ≢ 32768 → read_signed (per k) low high ≡ Some (Temperature (signed_steps (per k) (low + 256 * high)))
 read_number k low high h = go (read_signed (per k) low high) (signed_read k low high)
   where
-    go : (r : Reading) → SignedRead k (low + 256 * high) r → r ≡ Of (Temperature (signed_steps (per k) (low + 256 * high)))
+    go : (r : Option Value) → SignedRead k (low + 256 * high) r → r ≡ Some (Temperature (signed_steps (per k) (low + 256 * high)))
     go r (SignedRead.number e) = refl
     go r (SignedRead.missing e) = absurd (h e)
 
@@ -88,10 +87,10 @@ signed_scaled k n K N M = go (ltb n 32768) refl
 
 -- ---- what is written
 
-pub write_number : (k n : ℕ) (x : Float) → k ≤ 149 → n < 65536 → n ≢ 32768 → IsNumber x (signed n) (2 ^ k) → signed_of (count_of (per k) x) ≡ two n
+pub write_number : (k n : ℕ) (x : Float) → k ≤ 149 → n < 65536 → n ≢ 32768 → IsNumber x (signed n) (2 ^ k) → signed_of (count_of (per k) x) ≡ Some (two n)
 write_number k n x K N M = go (ltb n 32768) refl
   where
-    go : (b : Bool) → ltb n 32768 ≡ b → IsNumber x (cond b (pos n) (negsuc (65535 - n))) (2 ^ k) → signed_of (count_of (per k) x) ≡ two n
+    go : (b : Bool) → ltb n 32768 ≡ b → IsNumber x (cond b (pos n) (negsuc (65535 - n))) (2 ^ k) → signed_of (count_of (per k) x) ≡ Some (two n)
     go true e g = let l : n < 32768 = ltb-true n 32768 e in simp (count_up k n x K (omega arith) g, e)
     go false e g =
         let l : 32768 ≤ n = ltb-false n 32768 e in
@@ -112,12 +111,12 @@ exactly_number x (pos n) c h = (false, h, inl refl)
 exactly_number x (negsuc n) c h = h
 
 -- what is written stands for a number in range, and the float is that number
-abbrev pub Written : ℕ → Float → Code → Type 0
-Written k x (One b) = ⊥
-Written k x (Two low high) = (low < 256) × (high < 256) × (low + 256 * high ≢ 32768) × IsNumber x (signed (low + 256 * high)) (2 ^ k)
-Written k x NoCode = Unit {0}
+abbrev pub Written : ℕ → Float → Option Code → Type 0
+Written k x (Some (One b)) = ⊥
+Written k x (Some (Two low high)) = (low < 256) × (high < 256) × (low + 256 * high ≢ 32768) × IsNumber x (signed (low + 256 * high)) (2 ^ k)
+Written k x None = Unit {0}
 
-written_two : (k n : ℕ) (x : Float) → n < 65536 → n ≢ 32768 → IsNumber x (signed n) (2 ^ k) → Written k x (two n)
+written_two : (k n : ℕ) (x : Float) → n < 65536 → n ≢ 32768 → IsNumber x (signed n) (2 ^ k) → Written k x (Some (two n))
 unfolding two
 written_two k n x N M g =
     let e : n % 256 + 256 * (n / 256 % 256) ≡ n = joined n N in
@@ -126,13 +125,13 @@ written_two k n x N M g =
 pub write_right : (k : ℕ) (x : Float) → k ≤ 149 → Written k x (signed_of (count_of (per k) x))
 write_right k x K = go (count_of (per k) x) (count_right k x K)
   where
-    up : (n : ℕ) → Number x false n (2 ^ k) → (b : Bool) → ltb n 32768 ≡ b → Written k x (cond b (two n) NoCode)
+    up : (n : ℕ) → Number x false n (2 ^ k) → (b : Bool) → ltb n 32768 ≡ b → Written k x (cond b (Some (two n)) None)
     up n g false e = tt
     up n g true e =
         let l : n < 32768 = ltb-true n 32768 e in
         written_two k n x (omega arith) (λ (h : n ≡ 32768). omega arith) (simp e g)
 
-    down : (n : ℕ) → 0 < n → HasValue x true n (2 ^ k) → (b : Bool) → ltb n 32768 ≡ b → Written k x (cond b (two (32768 + (32768 - n))) NoCode)
+    down : (n : ℕ) → 0 < n → HasValue x true n (2 ^ k) → (b : Bool) → ltb n 32768 ≡ b → Written k x (cond b (Some (two (32768 + (32768 - n)))) None)
     down n p h false e = tt
     down n p h true e =
         let l : n < 32768 = ltb-true n 32768 e in
@@ -141,10 +140,10 @@ write_right k x K = go (count_of (per k) x) (count_right k x K)
         let back : suc (65535 - at) ≡ n = omega arith in
         written_two k at x (omega arith) (λ (q : at ≡ 32768). omega arith) (simp high (subst (λ (m : ℕ). HasValue x true m (2 ^ k)) (sym back) h))
 
-    go : (r : Count) → Counted k x r → Written k x (signed_of r)
-    go (Up n) c = up n c.1 (ltb n 32768) refl
-    go (Down n) c = down n c.1 c.2 (ltb n 32768) refl
-    go Uneven c = tt
+    go : (r : Option Count) → Counted k x r → Written k x (signed_of r)
+    go (Some (Up n)) c = up n c.1 (ltb n 32768) refl
+    go (Some (Down n)) c = down n c.1 c.2 (ltb n 32768) refl
+    go None c = tt
 
 -- ---- and back
 
@@ -157,18 +156,18 @@ read_back k n x K F N M g = go (signed n) (signed_scaled k n K N M).1 g
     go (negsuc m) h g = comes_back x (signed_steps (per k) n) true (suc m) k F (signed_fits (per k) n) h (λ (q : suc m ≡ 0). absurd (omega arith)) (true, g, inl refl)
 
 -- reading what was written gives it back
-pub back : (k : ℕ) (x : Float) → k ≤ 149 → T (fits binary32 x) → (low high : ℕ) → signed_of (count_of (per k) x) ≡ Two low high
-    → read_signed (per k) low high ≡ Of (Temperature (plain_float x))
+pub back : (k : ℕ) (x : Float) → k ≤ 149 → T (fits binary32 x) → (low high : ℕ) → signed_of (count_of (per k) x) ≡ Some (Two low high)
+    → read_signed (per k) low high ≡ Some (Temperature (plain_float x))
 back k x K F low high e =
-    let w : Written k x (Two low high) = subst (Written k x) e (write_right k x K) in
+    let w : Written k x (Some (Two low high)) = subst (Written k x) e (write_right k x K) in
     let l : low < 256 = w.0 in
     let h : high < 256 = w.1 in
-    read_number k low high w.2 ∙ ap (λ (y : Float). Of (Temperature y)) (read_back k (low + 256 * high) x K F (omega arith) w.2 w.3)
+    read_number k low high w.2 ∙ ap (λ (y : Float). Some (Temperature y)) (read_back k (low + 256 * high) x K F (omega arith) w.2 w.3)
 
 -- writing what was read gives the code
 pub forth : (k low high : ℕ) → k ≤ 149 → low < 256 → high < 256 → low + 256 * high ≢ 32768
-    → signed_of (count_of (per k) (signed_steps (per k) (low + 256 * high))) ≡ Two low high
+    → signed_of (count_of (per k) (signed_steps (per k) (low + 256 * high))) ≡ Some (Two low high)
 forth k low high K l h M =
     let N : low + 256 * high < 65536 = omega arith in
     write_number k (low + 256 * high) _ K N M (exactly_number _ (signed (low + 256 * high)) (2 ^ k) (signed_scaled k (low + 256 * high) K N M).1)
-    ∙ bytes_of low high l h
+    ∙ ap Some (bytes_of low high l h)

@@ -1,35 +1,31 @@
 -- A block of 1 to 8 DATA1c shares, accepted only if all are present and the codes add up to 200 (02, E2). Assumes nothing.
-use Rattle.std.specs.Prelude.{ℕ, ◌+◌, ◌-◌, Bool, true, false, cond, List, [], ◌∷◌, ◌++◌, length, replicate, pos, ◌==◌, nat_lt, Float}
+use Rattle.std.specs.Prelude.{ℕ, ◌-◌, Bool, false, cond, List, [], ◌∷◌, ◌++◌, length, sum, replicate, pos, ◌==◌, nat_lt, Float, Option, Some, None, is_none, Result, Ok, Err}
 use Rattle.std.specs.Float.{fin}
+use Rattle.std.specs.List.{list_any}
 use Rattle.value.specs.Read.{percent_of, read_share}
 use Rattle.value.specs.Value.{is_gone}
-use Rattle.value.specs.declared.block.Block.{Block}
-use Rattle.value.specs.declared.block.Fault.{Fault}
-use Rattle.value.specs.declared.block.Fault.TheVariants.{Valueless, Absent}
+use Rattle.value.specs.declared.block.BlockError.{BlockError}
+use Rattle.value.specs.declared.block.BlockError.TheVariants.{NoBlock, ShareMissing, NotAHundred}
 use Rattle.value.specs.declared.block.Shares.{Shares}
-use Rattle.value.specs.declared.block.Verdict.{Verdict}
-use Rattle.value.specs.declared.block.Verdict.TheVariants.{Accepted, NoBlock, ShareMissing, NotAHundred}
-use Rattle.value.specs.declared.read.Reading.{Reading}
-use Rattle.value.specs.declared.read.Reading.TheVariants.{Of, NoValue}
+use Rattle.value.specs.declared.value.Value.{Value}
 
 abbrev pub most_shares : ℕ
 most_shares = 8
 
 -- what can be wrong with a share: no value has its code, or it is missing
-abbrev pub shows : Fault → Reading → Bool
-shows Valueless (Of v) = false
-shows Valueless NoValue = true
-shows Absent (Of v) = is_gone v
-shows Absent NoValue = false
+abbrev pub is_valueless : Option Value → Bool
+is_valueless r = is_none r
+
+abbrev pub is_absent : Option Value → Bool
+is_absent (Some v) = is_gone v
+is_absent None = false
 
 -- some share of the block
-unfoldable pub any_shows : Fault → List ℕ → Bool
-any_shows f [] = false
-any_shows f (b ∷ bs) = let rest = any_shows f bs in cond (shows f (read_share b)) true rest
+abbrev pub any_shows : (Option Value → Bool) → List ℕ → Bool
+any_shows f bs = list_any (λ b. f (read_share b)) bs
 
-unfoldable pub sum_of : List ℕ → ℕ
-sum_of [] = 0
-sum_of (b ∷ bs) = b + sum_of bs
+abbrev pub sum_of : List ℕ → ℕ
+sum_of bs = sum bs
 
 -- the shares in percent, in their order
 unfoldable pub percents_of : List ℕ → List Float
@@ -44,27 +40,11 @@ shares_of bs =
       percents = percents_of bs ++ replicate (most_shares - length bs) (fin false 0 (pos 0));
     }
 
-abbrev pub no_shares : Shares
-no_shares = record { count = 0; percents = replicate most_shares (fin false 0 (pos 0)) }
-
--- of several faults the one with the lowest number is named, whichever share has it
-unfoldable pub verdict_of : List ℕ → Verdict
-verdict_of bs =
-    cond (length bs == 0) NoBlock
-    (cond (nat_lt most_shares (length bs)) NoBlock
-    (cond (any_shows Valueless bs) NoBlock
-    (cond (any_shows Absent bs) ShareMissing
-    (cond (sum_of bs == 200) Accepted NotAHundred))))
-
--- a block that is refused gives no shares
-abbrev pub refused_block : Verdict → Block
-refused_block v = record { verdict = v; shares = no_shares }
-
-abbrev pub block_by : Verdict → List ℕ → Block
-block_by Accepted bs = record { verdict = Accepted; shares = shares_of bs }
-block_by NoBlock bs = refused_block NoBlock
-block_by ShareMissing bs = refused_block ShareMissing
-block_by NotAHundred bs = refused_block NotAHundred
-
-abbrev pub block_of : List ℕ → Block
-block_of bs = block_by (verdict_of bs) bs
+-- of several faults the one with the lowest number is named, whichever share has it; a block that is refused gives no shares
+unfoldable pub block_of : List ℕ → Result Shares BlockError
+block_of bs =
+    cond (length bs == 0) (Err NoBlock)
+    (cond (nat_lt most_shares (length bs)) (Err NoBlock)
+    (cond (any_shows is_valueless bs) (Err NoBlock)
+    (cond (any_shows is_absent bs) (Err ShareMissing)
+    (cond (sum_of bs == 200) (Ok (shares_of bs)) (Err NotAHundred)))))

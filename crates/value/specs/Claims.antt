@@ -1,11 +1,9 @@
 -- The words of what is proved of reading and writing (02, E2). Assumes nothing.
-use Rattle.std.specs.Prelude.{◌≡◌, ℕ, suc, ◌+◌, ◌-◌, ◌*◌, ◌<◌, ◌≤◌, Bool, true, false, cond, T, ◌⊎◌, List, [], ◌∷◌, length, ℤ, pos, negsuc, nat_lt, slice_index, Float}
+use Rattle.std.specs.Prelude.{◌≡◌, ℕ, suc, ◌+◌, ◌-◌, ◌*◌, ◌<◌, ◌≤◌, Bool, true, false, cond, T, ◌⊎◌, List, [], ◌∷◌, length, ℤ, pos, negsuc, nat_lt, slice_index, Float, Option, Some}
 use Rattle.std.specs.Float.{fin, binary32}
 use Rattle.std.specs.Float.Ieee.{eq, fits}
 use Rattle.std.specs.Float.Ieee.Exact.{HasValue}
 use Rattle.value.specs.Read.{read_as}
-use Rattle.value.specs.declared.read.Reading.{Reading}
-use Rattle.value.specs.declared.read.Reading.TheVariants.{Of}
 use Rattle.value.specs.declared.value.DataType.{DataType}
 use Rattle.value.specs.declared.value.DataType.TheVariants.{Bcd, Data1c, Data2b, Data2c}
 use Rattle.value.specs.declared.value.Value.{Value}
@@ -77,8 +75,8 @@ float_of Data2b x = Temperature x
 float_of Data2c x = Temperature x
 
 -- a float is read
-abbrev pub GivesFloat : Reading → Float → Type 0
-GivesFloat r x = (r ≡ Of (Percent x)) ⊎ (r ≡ Of (Temperature x))
+abbrev pub GivesFloat : Option Value → Float → Type 0
+GivesFloat r x = (r ≡ Some (Percent x)) ⊎ (r ≡ Some (Temperature x))
 
 -- a value that an f32 can hold
 abbrev pub Held : Value → Type 0
@@ -101,17 +99,17 @@ plain (Temperature x) = Temperature (plain_float x)
 plain Missing = Missing
 
 -- some code of a block
-pub data Some (P : ℕ → Type 0) : List ℕ → Type 0 where
-  here : {b : ℕ} {bs : List ℕ} → P b → Some P (b ∷ bs)
-  there : {b : ℕ} {bs : List ℕ} → Some P bs → Some P (b ∷ bs)
+pub data SomeCode (P : ℕ → Type 0) : List ℕ → Type 0 where
+  here : {b : ℕ} {bs : List ℕ} → P b → SomeCode P (b ∷ bs)
+  there : {b : ℕ} {bs : List ℕ} → SomeCode P bs → SomeCode P (b ∷ bs)
 
 -- 17: no share, more than 8, or one whose code is in no line of the table
 abbrev pub Fault17 : List ℕ → Type 0
-Fault17 bs = (length bs ≡ 0) ⊎ ((8 < length bs) ⊎ Some (λ b. IsCode Data1c (b ∷ []) → ⊥) bs)
+Fault17 bs = (length bs ≡ 0) ⊎ ((8 < length bs) ⊎ SomeCode (λ b. IsCode Data1c (b ∷ []) → ⊥) bs)
 
 -- 18: a share is missing
 abbrev pub Fault18 : List ℕ → Type 0
-Fault18 bs = Some (λ b. b ≡ 0xff) bs
+Fault18 bs = SomeCode (λ b. b ≡ 0xff) bs
 
 -- these floats are numbers over c, and n / c is what they add up to
 pub data AddUp (c : ℕ) : List Float → ℕ → Type 0 where
@@ -121,4 +119,4 @@ pub data AddUp (c : ℕ) : List Float → ℕ → Type 0 where
 -- each code, read alone, gives the percentage that stands in its place
 pub data EachRead : List ℕ → List Float → Type 0 where
   no_more : EachRead [] []
-  and_so : {b : ℕ} {x : Float} {bs : List ℕ} {xs : List Float} → read_as Data1c (b ∷ []) ≡ Of (Percent x) → EachRead bs xs → EachRead (b ∷ bs) (x ∷ xs)
+  and_so : {b : ℕ} {x : Float} {bs : List ℕ} {xs : List Float} → read_as Data1c (b ∷ []) ≡ Some (Percent x) → EachRead bs xs → EachRead (b ∷ bs) (x ∷ xs)

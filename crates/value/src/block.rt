@@ -1,10 +1,12 @@
 // A block of shares that make 100 percent.
-ghost use Rattle.std.specs.Prelude.{◌≡◌, ◌≤◌, length};
-ghost use Rattle.value.specs.Block.{shows, any_shows, sum_of, shares_of, no_shares, verdict_of, refused_block, block_of};
+ghost use Rattle.std.specs.Prelude.{◌≡◌, ◌≤◌, length, take};
+ghost use Rattle.value.specs.Answers.{fault_number};
+ghost use Rattle.value.specs.Block.{is_valueless, is_absent, any_shows, sum_of, shares_of, block_of};
 
-use crate::read::{Reading, percent, read_share};
+use crate::read::{percent, read_share};
+use crate::value::Value;
 
-// The shares in percent; behind the last one stand zeros.
+// The shares in percent; behind the last one stand zeros. An array and a count, since nothing is allocated here.
 #[derive(Clone, Copy)]
 pub struct Shares {
     pub count: usize,
@@ -13,148 +15,82 @@ pub struct Shares {
 
 impl Shares {
     pub const MOST: usize = 8;
-}
 
-#[derive(Clone, Copy)]
-pub enum Verdict {
-    Accepted,
-    // 17: no share at all, more than 8, or one whose code has no value.
-    NoBlock,
-    // 18
-    ShareMissing,
-    // 19
-    NotAHundred,
-}
-
-// A block that is refused gives no shares.
-#[derive(Clone, Copy)]
-pub struct Block {
-    pub verdict: Verdict,
-    pub shares: Shares,
-}
-
-// What can be wrong with a share.
-#[derive(Clone, Copy)]
-enum Fault {
-    // No value has its code.
-    Valueless,
-    // It is missing.
-    Absent,
-}
-
-fn shows(f: Fault, r: Reading) -> bool
-    ensures { result ≡ shows f r }
-{
-    match r {
-        Reading::Of(v) => match f {
-            Fault::Valueless => false,
-            Fault::Absent => v.is_missing(),
-        },
-        Reading::NoValue => match f {
-            Fault::Valueless => true,
-            Fault::Absent => false,
-        },
+    // The shares alone.
+    pub fn percents(&self) -> &[f32]
+        ensures { result.now ≡ take self.now.count self.now.percents }
+    {
+        &self.percents[..self.count.min(Shares::MOST)]
     }
 }
 
-// Some share of the block shows the fault.
-fn any_shows(f: Fault, codes: &[u8]) -> bool
-    ensures { result ≡ any_shows f codes.now }
-{
-    let mut i: usize = 0;
-    while i < codes.len() {
-        let share = read_share(codes[i]);
-        if shows(f, share) {
-            return true;
-        }
-        i += 1;
+// Why a block is refused: it gives no shares. Each variant's number is the one that it is named by.
+#[derive(Clone, Copy, PartialEq, Eq, Debug)]
+pub enum BlockError {
+    // No share at all, more than 8, or one whose code has no value.
+    NoBlock = 17,
+    ShareMissing = 18,
+    NotAHundred = 19,
+}
+
+impl BlockError {
+    pub fn number(self) -> u32
+        ensures { result ≡ fault_number self }
+    {
+        self as u32
     }
-    false
 }
 
 fn sum(codes: &[u8]) -> u32
     requires { length codes.now ≤ 8 }
     ensures { result ≡ sum_of codes.now }
 {
-    let mut n: u32 = 0;
-    let mut i: usize = 0;
-    while i < codes.len() {
-        let b = codes[i];
-        n += b as u32;
-        i += 1;
-    }
-    n
+    codes.iter().map(|&b| u32::from(b)).sum()
 }
 
+#[tactic(auto, using(crate::proofs::Blocks::share_more, crate::proofs::Blocks::shares_all), unfolding(crate::specs::Block::shares_of))]
 fn in_percent(codes: &[u8]) -> Shares
     requires { length codes.now ≤ 8 }
     ensures { result ≡ shares_of codes.now }
 {
-    let n = codes.len();
-    let mut percents = [0.0f32; Shares::MOST];
-    let mut i: usize = 0;
-    while i < n {
-        percents[i] = percent(codes[i]);
-        i += 1;
+    let mut percents = [0.0; Shares::MOST];
+    for (i, &b) in codes.iter().enumerate() {
+        percents[i] = percent(b);
     }
     Shares {
-        count: n,
-        percents: percents,
+        count: codes.len(),
+        percents,
     }
 }
 
-fn no_shares() -> Shares
-    ensures { result ≡ no_shares }
+// Some share's code has no value.
+fn any_valueless(codes: &[u8]) -> bool
+    ensures { result ≡ any_shows is_valueless codes.now }
 {
-    Shares {
-        count: 0,
-        percents: [0.0f32; Shares::MOST],
-    }
+    codes.iter().any(|&b| read_share(b).is_none())
+}
+
+// Some share is missing.
+fn any_absent(codes: &[u8]) -> bool
+    ensures { result ≡ any_shows is_absent codes.now }
+{
+    codes
+        .iter()
+        .any(|&b| read_share(b).is_some_and(Value::is_missing))
 }
 
 // Of several faults the one with the lowest number is named, whichever share has it.
-fn verdict_of(codes: &[u8]) -> Verdict
-    ensures { result ≡ verdict_of codes.now }
-{
-    if codes.len() == 0 {
-        return Verdict::NoBlock;
-    }
-    if Shares::MOST < codes.len() {
-        return Verdict::NoBlock;
-    }
-    if any_shows(Fault::Valueless, codes) {
-        return Verdict::NoBlock;
-    }
-    if any_shows(Fault::Absent, codes) {
-        return Verdict::ShareMissing;
-    }
-    if sum(codes) == 200 {
-        Verdict::Accepted
-    } else {
-        Verdict::NotAHundred
-    }
-}
-
-fn refused(v: Verdict) -> Block
-    ensures { result ≡ refused_block v }
-{
-    Block {
-        verdict: v,
-        shares: no_shares(),
-    }
-}
-
-pub fn accept(codes: &[u8]) -> Block
+#[tactic(auto, unfolding(crate::specs::Block::block_of))]
+pub fn accept(codes: &[u8]) -> Result<Shares, BlockError>
     ensures { result ≡ block_of codes.now }
 {
-    let v = verdict_of(codes);
-    match v {
-        Verdict::Accepted => Block {
-            verdict: v,
-            shares: in_percent(codes),
-        },
-        Verdict::NoBlock => refused(v),
-        Verdict::ShareMissing => refused(v),
-        Verdict::NotAHundred => refused(v),
+    if codes.is_empty() || Shares::MOST < codes.len() || any_valueless(codes) {
+        Err(BlockError::NoBlock)
+    } else if any_absent(codes) {
+        Err(BlockError::ShareMissing)
+    } else if sum(codes) == 200 {
+        Ok(in_percent(codes))
+    } else {
+        Err(BlockError::NotAHundred)
     }
 }

@@ -7,56 +7,37 @@ ghost use Rattle.value.specs.Steps.{steps_of, size_of, count_of};
 pub enum Count {
     Up(u32),
     Down(u32),
-    Uneven,
 }
 
-// How many steps a float that is not below zero is.
-#[derive(Clone, Copy)]
-enum Size {
-    Steps(u32),
-    NoSteps,
-}
-
+#[tactic(auto, unfolding(crate::specs::Steps::steps_of))]
 pub(crate) fn steps(n: u32, scale: f32) -> f32
     ensures { result ≡ steps_of scale n }
 {
     std::num::nearest_u32_to_f32(n) / scale
 }
 
+// How many steps a float that is not below zero is.
 // Product and cut only find a candidate; that it is right is decided by the last test, which takes it back.
-fn size_of(x: f32, scale: f32) -> Size
+fn size_of(x: f32, scale: f32) -> Option<u32>
     ensures { result ≡ size_of scale x }
 {
     let y = x * scale;
-    if y > -1.0 {
-        if y < 18446744073709551616.0 {
-            let m = std::num::truncating_f32_to_u64(y);
-            if m < 16777216 {
-                let n = m as u32;
-                if steps(n, scale) == x {
-                    return Size::Steps(n);
-                }
-            }
+    if y > -1.0 && y < 18446744073709551616.0 {
+        let m = std::num::truncating_f32_to_u64(y);
+        if m < 16777216 && steps(m as u32, scale) == x {
+            return Some(m as u32);
         }
     }
-    Size::NoSteps
+    None
 }
 
-// Minus zero is not below zero: it is no steps up.
-pub fn count_of(x: f32, scale: f32) -> Count
+// None for a float between two steps. Minus zero is not below zero: it is no steps up.
+pub fn count_of(x: f32, scale: f32) -> Option<Count>
     ensures { result ≡ count_of scale x }
 {
     if x < 0.0 {
-        let down = size_of(-x, scale);
-        match down {
-            Size::Steps(n) => Count::Down(n),
-            Size::NoSteps => Count::Uneven,
-        }
+        Some(Count::Down(size_of(-x, scale)?))
     } else {
-        let up = size_of(x, scale);
-        match up {
-            Size::Steps(n) => Count::Up(n),
-            Size::NoSteps => Count::Uneven,
-        }
+        Some(Count::Up(size_of(x, scale)?))
     }
 }

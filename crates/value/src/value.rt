@@ -14,12 +14,7 @@ impl Value {
     pub fn is_missing(self) -> bool
         ensures { result ≡ is_gone self }
     {
-        match self {
-            Value::Whole(_) => false,
-            Value::Percent(_) => false,
-            Value::Temperature(_) => false,
-            Value::Missing => true,
-        }
+        matches!(self, Value::Missing)
     }
 }
 

@@ -14,19 +14,20 @@ use Rattle.bus.specs.Run.{runs}
 use Rattle.bus.specs.Slot.{slot_heard, slot_run}
 use Rattle.bus.specs.declared.bus.Bus.{Bus}
 use Rattle.bus.specs.declared.find.Query.TheVariants.{WasTold}
-use Rattle.bus.specs.declared.run.Stop.{Stop}
+use Rattle.bus.specs.Run.{Stop}
+use Rattle.std.specs.Prelude.{Option, Some, None}
 use Rattle.walk.specs.declared.field.Field.{Field}
-use Rattle.walk.specs.declared.field.Field.TheVariants.{Master, Slave, Reply, Queue, Run, Heard, Quiet, Bad}
-use Rattle.walk.specs.declared.form.Form.TheVariants.{Good}
+use Rattle.walk.specs.declared.field.Field.TheVariants.{Master, Slave, Reply, Queue, Run, Heard, Quiet}
+use Rattle.std.specs.Prelude.{Ok}
 use Rattle.walk.specs.declared.walk.Place.{Place}
 use Rattle.walk.specs.declared.walk.Moment.{Moment}
 use Rattle.walk.specs.declared.walk.Moment.TheVariants.{Called, Told, Passed, Ended}
-use Rattle.walk.specs.declared.walk.Step.{Step}
+use Rattle.walk.specs.Walk.{Step}
 use Rattle.walk.specs.Field.{Bytes, field_at, is_bad}
 use Rattle.walk.specs.Form.{form_of}
 use Rattle.walk.specs.Apply.{applied}
-use Rattle.walk.specs.Walk.{before, within, slots_left, task_of, ahead_of, stepped, came, next_as, next, is_end, passed_by, walked}
-use Rattle.walk.specs.Moments.{Now, now, Gone, ran, gone_as, told_in, moments_from, moments, is_passed, without_ends, Gives, last, one}
+use Rattle.walk.specs.Walk.{before, within, slots_left, task_as, ahead_of, stepped, came, next_as, next, is_end, passed_by, walked}
+use Rattle.walk.specs.Moments.{Now, now, Gone, ran, gone_by, told_in, moments_from, moments, is_passed, without_ends, Gives, last, one}
 use Rattle.walk.proofs.Fields.{Finds, next_past, found_next, found_first, not_bad}
 use Rattle.walk.proofs.Going.{goes_first, goes_here, walked_on, came_told, came_quiet}
 use Rattle.walk.proofs.Shorter.{run_shorter}
@@ -142,24 +143,24 @@ heard_steps s c b p to {l} e w = go (there_is c WasTold) refl
     go true f = rw f (and_on (e ∙ came_told c to 0 refl f) refl (and_on (passes s c to) refl w))
     go false f = rw f (and_on (e ∙ came_quiet c to 0 refl f) refl w)
 
-field_steps : (f : Field) (s : List ℕ) (b : Bus) (p : Place) (to : ℕ) {l : List Now} → is_bad f ≡ false
-    → next b p s ≡ next_as (task_of f) to b s
-    → Steps s (gone_as f (applied b f s to)).bus (before to) l
-    → Steps s b p ((gone_as f (applied b f s to)).moments ++ (now Passed (gone_as f (applied b f s to)).bus ∷ l))
+field_steps : (f : Option Field) (s : List ℕ) (b : Bus) (p : Place) (to : ℕ) {l : List Now} → is_bad f ≡ false
+    → next b p s ≡ next_as (task_as f) to b s
+    → Steps s (gone_by f b s to).bus (before to) l
+    → Steps s b p ((gone_by f b s to).moments ++ (now Passed (gone_by f b s to).bus ∷ l))
 unfolding applied done
-field_steps (Master a) s b p to g e w = and_on e refl (and_on (passes s _ to) refl w)
-field_steps (Slave a) s b p to g e w = and_on e refl (and_on (passes s _ to) refl w)
-field_steps (Reply a q r f) s b p to g e w = and_on e refl (and_on (passes s _ to) refl w)
-field_steps (Queue q z r t f) s b p to g e w = and_on e refl (and_on (passes s _ to) refl w)
-field_steps (Run n) s b p to g e w = run_steps n n s b p to (omega arith) e w
-field_steps (Heard x) s b p to g e w = heard_steps s (slot_heard b (sound.Symbol x)) b p to e w
-field_steps Quiet s b p to g e w = heard_steps s (slot_heard b sound.Quiet) b p to e w
-field_steps Bad s b p to g e w = absurd (true≢false g)
+field_steps (Some (Master a)) s b p to g e w = and_on e refl (and_on (passes s _ to) refl w)
+field_steps (Some (Slave a)) s b p to g e w = and_on e refl (and_on (passes s _ to) refl w)
+field_steps (Some (Reply a q r f)) s b p to g e w = and_on e refl (and_on (passes s _ to) refl w)
+field_steps (Some (Queue q z r t f)) s b p to g e w = and_on e refl (and_on (passes s _ to) refl w)
+field_steps (Some (Run n)) s b p to g e w = run_steps n n s b p to (omega arith) e w
+field_steps (Some (Heard x)) s b p to g e w = heard_steps s (slot_heard b (sound.Symbol x)) b p to e w
+field_steps (Some Quiet) s b p to g e w = heard_steps s (slot_heard b sound.Quiet) b p to e w
+field_steps None s b p to g e w = absurd (true≢false g)
 
 -- ---- all fields
 
 field_next : (s : List ℕ) (b : Bus) (at : ℕ) → at < length s
-    → next b (before at) s ≡ next_as (task_of (field_at s at).field) (field_at s at).next b s
+    → next b (before at) s ≡ next_as (task_as (field_at s at).field) (field_at s at).next b s
 unfolding next ahead_of
 field_next s b at h = simp (lt-ltb at (length s) h)
 
@@ -167,28 +168,28 @@ end_next : (s : List ℕ) (b : Bus) (at : ℕ) → length s ≤ at → next b (b
 unfolding next ahead_of
 end_next s b at h = simp (le-ltb at (length s) h)
 
-steps_from : (k : ℕ) (s : List ℕ) (at : ℕ) (b : Bus) → length s - at ≤ k → Finds s at Good → Steps s b (before at) (moments_from k s at b)
+steps_from : (k : ℕ) (s : List ℕ) (at : ℕ) (b : Bus) → length s - at ≤ k → Finds s at (Ok tt) → Steps s b (before at) (moments_from k s at b)
 unfolding moments_from
 steps_from zero s at b h g = at_end (end_next s b at (omega arith)) refl
 steps_from (suc k) s at b h g =
-    go (ltb at (length s)) refl (steps_from k s (field_at s at).next (gone_as (field_at s at).field (applied b (field_at s at).field s (field_at s at).next)).bus)
+    go (ltb at (length s)) refl (steps_from k s (field_at s at).next (gone_by (field_at s at).field b s (field_at s at).next).bus)
   where
-    f : Field
+    f : Option Field
     f = (field_at s at).field
 
     to : ℕ
     to = (field_at s at).next
 
     gone : Gone
-    gone = gone_as f (applied b f s to)
+    gone = gone_by f b s to
 
     go : (t : Bool) → ltb at (length s) ≡ t
-        → (length s - to ≤ k → Finds s to Good → Steps s gone.bus (before to) (moments_from k s to gone.bus))
+        → (length s - to ≤ k → Finds s to (Ok tt) → Steps s gone.bus (before to) (moments_from k s to gone.bus))
         → Steps s b (before at) (cond t (gone.moments ++ (now Passed gone.bus ∷ moments_from k s to gone.bus)) (now Ended b ∷ []))
     go true t ih =
         let l : at < length s = ltb-true at (length s) t in
         let n = not_bad s at l g in
-        field_steps f s b (before at) to n (field_next s b at l) (ih (omega (arith, next_past s at n)) (found_next s at Good l n g))
+        field_steps f s b (before at) to n (field_next s b at l) (ih (omega (arith, next_past s at n)) (found_next s at (Ok tt) l n g))
     go false t ih = at_end (end_next s b at (ltb-false at (length s) t)) refl
 
 -- ---- with the ends of fields, and without them
@@ -231,14 +232,14 @@ without {s} {b} {p} bytes (and_on {n = n} {l = l} e f w) = go n.moment refl f (w
 
 -- ---- the theorems
 
-from_start : (s : List ℕ) → form_of s ≡ Good → Steps s powered_on (before 0) (moments s)
+from_start : (s : List ℕ) → form_of s ≡ Ok tt → Steps s powered_on (before 0) (moments s)
 unfolding moments
 from_start s g = steps_from (length s) s 0 powered_on (omega arith) (found_first s g)
 
 -- asked for the ends of fields, the walk gives every moment of the scenario
-pub walk_gives_moments : (s : List ℕ) → form_of s ≡ Good → Gives true s powered_on (before 0) (moments s)
+pub walk_gives_moments : (s : List ℕ) → form_of s ≡ Ok tt → Gives true s powered_on (before 0) (moments s)
 walk_gives_moments s g = with_ends (from_start s g)
 
 -- else it gives all but the ends of fields
-pub walk_gives_others : (s : List ℕ) → Bytes s → form_of s ≡ Good → Gives false s powered_on (before 0) (without_ends (moments s))
+pub walk_gives_others : (s : List ℕ) → Bytes s → form_of s ≡ Ok tt → Gives false s powered_on (before 0) (without_ends (moments s))
 walk_gives_others s bytes g = without bytes (from_start s g)

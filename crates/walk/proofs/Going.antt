@@ -1,16 +1,19 @@
 -- The walk to the next moment that is asked for, a moment at a time. Assumes nothing.
-use mathlib.Core.Path.{◌≡◌, refl, sym, ◌∙◌}
+use mathlib.Core.Path.{◌≡◌, refl, sym, ap, ◌∙◌}
 use mathlib.Core.Bool.{Bool, true, false, cond}
 use mathlib.Core.List.{List}
 use Prim.Native.Nat.{ℕ, zero, suc, ◌≤◌, ◌<◌}
 use native.Mathlib.Omega.{arith}
+use Rattle.station.specs.declared.phase.Sound.{Sound}
 use Rattle.bus.specs.Find.{there_is}
+use Rattle.bus.specs.Run.{Stop, stopped, runs}
+use Rattle.bus.specs.Slot.{slot_heard}
 use Rattle.bus.specs.declared.bus.Bus.{Bus}
 use Rattle.bus.specs.declared.find.Query.TheVariants.{WasTold}
 use Rattle.walk.specs.declared.walk.Place.{Place}
 use Rattle.walk.specs.declared.walk.Moment.{Moment}
 use Rattle.walk.specs.declared.walk.Moment.TheVariants.{Called, Told, Passed, Ended}
-use Rattle.walk.specs.declared.walk.Step.{Step}
+use Rattle.walk.specs.Walk.{Step}
 use Rattle.walk.specs.declared.walk.Task.{Task}
 use Rattle.walk.specs.declared.walk.Ahead.{Ahead}
 use Rattle.walk.specs.Field.{Bytes}
@@ -42,13 +45,18 @@ goes_here {b} {p} {s} {ends} {r} {n} g e f = go g.turns g.comes
     go zero w = sym e ∙ w
     go (suc k) w = sym (simp (e, f)) ∙ w
 
+-- what is passed by brings the end nearer
+pub passed_nearer : (b : Bus) (p : Place) (s : List ℕ) (ends : Bool) {n : Step}
+    → Bytes s → next b p s ≡ n → passed_by ends n.moment ≡ true → to_go n.place s < to_go p s
+passed_nearer b p s ends {n} bytes e f = rw e at (nearer b p s bytes (rw e (no_end ends n.moment f)))
+
 pub goes_on : {b : Bus} {p : Place} {s : List ℕ} {ends : Bool} {r n : Step}
     → Bytes s → Goes b p s ends r → next b p s ≡ n → passed_by ends n.moment ≡ true → Goes n.bus n.place s ends r
 unfolding walked_from
 goes_on {b} {p} {s} {ends} {r} {n} bytes g e f = go g.turns g.enough g.comes
   where
     h : to_go n.place s < to_go p s
-    h = rw e at (nearer b p s bytes (rw e (no_end ends n.moment f)))
+    h = passed_nearer b p s ends bytes e f
 
     go : (k : ℕ) → to_go p s ≤ k → walked_from k b p s ends ≡ r → Goes n.bus n.place s ends r
     go zero l w = absurd (omega (arith, h))
@@ -126,3 +134,11 @@ came_told b to left e f = simp (← e, f)
 pub came_quiet : (b : Bus) (to left : ℕ) {t : Bool} → t ≡ there_is b WasTold → t ≡ false → came b to left ≡ stepped b (before to) Passed
 unfolding came
 came_quiet b to left e f = simp (← e, f)
+
+-- a run, as the bus and what it left say
+pub ran : (b d : Bus) (n left to : ℕ) → stopped d left ≡ runs n b → came (runs n b).bus to (runs n b).left ≡ came d to left
+ran b d n left to e = ap (λ (x : Stop). came x.bus to x.left) (sym e)
+
+-- a slot, as the bus says
+pub heard : (b d : Bus) (h : Sound) (to : ℕ) → d ≡ slot_heard b h → came (slot_heard b h) to 0 ≡ came d to 0
+heard b d h to e = ap (λ (x : Bus). came x to 0) (sym e)

@@ -10,9 +10,10 @@ use borrow.Author.Tests.{ltb-true, ltb-false, eqb-true}
 use lib.Dec.{eqb, ltb}
 use lib.ListN.{length, get_or, take, drop, length-drop, take-append-drop, drop_of_length-le}
 use lib.Seq.{drop-cons, drop-drop, length-take-le}
+use Rattle.std.specs.Prelude.{Option, Ok, Err}
 use Rattle.walk.specs.declared.field.Field.{Field}
 use Rattle.walk.specs.declared.field.Placed.{Placed}
-use Rattle.walk.specs.declared.form.Form.TheVariants.{Good, TooLong}
+use Rattle.walk.specs.declared.form.FormError.TheVariants.{TooLong}
 use Rattle.walk.specs.Field.{Bytes, byte_at, pair_at, length_at, no_field, value_of, field_at, is_bad}
 use Rattle.walk.specs.Form.{most, form_from, form_of}
 use Rattle.walk.specs.Tagged.{Item, master, slave, reply, queue, run, heard, quiet, tag_of, value_bytes, item_bytes, scenario_of}
@@ -58,7 +59,7 @@ clash : {A : Type 0} → true ≡ false → A
 clash e = absurd (true≢false e)
 
 -- the field where a test is passed, or where it is not
-by_test : {A : Type 0} (t : Bool) (x y : Field) → (t ≡ true → is_bad x ≡ false → A) → (t ≡ false → is_bad y ≡ false → A) → is_bad (cond t x y) ≡ false → A
+by_test : {A : Type 0} (t : Bool) (x y : Option Field) → (t ≡ true → is_bad x ≡ false → A) → (t ≡ false → is_bad y ≡ false → A) → is_bad (cond t x y) ≡ false → A
 by_test true x y f g e = f refl e
 by_test false x y f g e = g refl e
 
@@ -174,27 +175,27 @@ module _ (s : List ℕ) (at : ℕ) (bytes : Bytes s) where
 
 -- ---- all of them
 
-items_from : (k : ℕ) (s : List ℕ) (at : ℕ) → Bytes s → length s - at ≤ k → Finds s at Good → (is : List Item) × (drop at s ≡ scenario_of is)
+items_from : (k : ℕ) (s : List ℕ) (at : ℕ) → Bytes s → length s - at ≤ k → Finds s at (Ok tt) → (is : List Item) × (drop at s ≡ scenario_of is)
 unfolding scenario_of
 items_from zero s at bytes h f = let l : length s ≤ at = omega arith in ([], drop_of_length-le s l)
 items_from (suc k) s at bytes h f = go (ltb at (length s)) refl (λ j g. items_from k s (field_at s at).next bytes j g)
   where
     go : (t : Bool) → ltb at (length s) ≡ t
-        → (length s - (field_at s at).next ≤ k → Finds s (field_at s at).next Good → (is : List Item) × (drop (field_at s at).next s ≡ scenario_of is))
+        → (length s - (field_at s at).next ≤ k → Finds s (field_at s at).next (Ok tt) → (is : List Item) × (drop (field_at s at).next s ≡ scenario_of is))
         → (is : List Item) × (drop at s ≡ scenario_of is)
     go true t ih =
         let l : at < length s = ltb-true at (length s) t in
         let b = not_bad s at l f in
         let i = field_item s at bytes b in
-        let r = ih (omega (arith, next_past s at b)) (found_next s at Good l b f) in
+        let r = ih (omega (arith, next_past s at b)) (found_next s at (Ok tt) l b f) in
         (i.item ∷ r.0, i.starts ∙ ap (λ (q : List ℕ). item_bytes i.item ++ q) r.1)
     go false t ih = ([], drop_of_length-le s (ltb-false at (length s) t))
 
-short : (s : List ℕ) → form_of s ≡ Good → length s ≤ most
+short : (s : List ℕ) → form_of s ≡ Ok tt → length s ≤ most
 unfolding form_of
 short s e = go (ltb most (length s)) refl e
   where
-    go : (t : Bool) → ltb most (length s) ≡ t → cond t TooLong (form_from (length s) s 0) ≡ Good → length s ≤ most
+    go : (t : Bool) → ltb most (length s) ≡ t → cond t (Err TooLong) (form_from (length s) s 0) ≡ Ok tt → length s ≤ most
     go true t e = let z : ◌≡◌ {A = ℕ} 0 1 = cc in absurd (omega arith)
     go false t e = ltb-false most (length s) t
 
@@ -204,8 +205,8 @@ pub record Fields (s : List ℕ) : Type 0 where
   pub is_theirs : s ≡ scenario_of items
   pub not_too_long : length s ≤ most
 
-pub good_exactly_when : (s : List ℕ) → Bytes s → (form_of s ≡ Good) ↔ Fields s
+pub good_exactly_when : (s : List ℕ) → Bytes s → (form_of s ≡ Ok tt) ↔ Fields s
 good_exactly_when s bytes = (
   λ e. let w = items_from (length s) s 0 bytes (omega arith) (found_first s e) in record { items = w.0; is_theirs = w.1; not_too_long = short s e },
-  λ f. subst (λ (l : List ℕ). form_of l ≡ Good) (sym f.is_theirs) (fields_good f.items (subst (λ (l : List ℕ). length l ≤ most) f.is_theirs f.not_too_long)),
+  λ f. subst (λ (l : List ℕ). form_of l ≡ Ok tt) (sym f.is_theirs) (fields_good f.items (subst (λ (l : List ℕ). length l ≤ most) f.is_theirs f.not_too_long)),
 )

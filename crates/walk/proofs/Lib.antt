@@ -1,6 +1,5 @@
 pub mod Fields
 pub mod FirstBad
-pub mod Following
 pub mod FollowsTheMoments
 pub mod Given
 pub mod Going
@@ -9,3 +8,4 @@ pub mod Nearer
 pub mod Seats
 pub mod Shorter
 pub mod TaggedRead
+pub mod Told

@@ -15,13 +15,13 @@ use Rattle.bus.specs.Run.{runs}
 use Rattle.bus.specs.Slot.{turned, slot_heard, slot_run}
 use Rattle.bus.specs.declared.bus.Bus.{Bus}
 use Rattle.bus.specs.declared.find.Query.TheVariants.{WasTold}
-use Rattle.bus.specs.declared.refusal.Verdict.{Verdict}
-use Rattle.bus.specs.declared.refusal.Verdict.TheVariants.{Done, Refused}
+use Rattle.std.specs.Prelude.{Result, Ok, Err, ⊤}
+use Rattle.bus.specs.declared.refusal.Refusal.{Refusal}
 use Rattle.bus.proofs.DoneChanges.{attach_done, queue_done, reply_done}
 use Rattle.bus.proofs.Loops.{length_map_first}
 use Rattle.bus.proofs.RefusedChangesNothing.{attach_refused, queue_refused, reply_refused}
 use Rattle.walk.specs.declared.field.Field.{Field}
-use Rattle.walk.specs.declared.field.Field.TheVariants.{Master, Slave, Reply, Queue, Run, Heard, Quiet, Bad}
+use Rattle.walk.specs.declared.field.Field.TheVariants.{Master, Slave, Reply, Queue, Run, Heard, Quiet}
 use Rattle.walk.specs.Apply.{bytes_from, applied}
 
 abbrev seats_in : Bus → ℕ
@@ -30,23 +30,23 @@ seats_in b = length b.turns
 attach_seats : (b : Bus) (a : ℕ) (m : Bool) → seats_in (attaches b a m).bus ≡ seats_in b
 attach_seats b a m = go (attaches b a m).verdict refl
   where
-    go : (v : Verdict) → (attaches b a m).verdict ≡ v → seats_in (attaches b a m).bus ≡ seats_in b
-    go Done e = ap length (attach_done b a m e).turns ∙ length-set b.turns b.count (newcomer a m)
-    go (Refused r) e = ap seats_in (attach_refused b a m r e)
+    go : (v : Result ⊤ Refusal) → (attaches b a m).verdict ≡ v → seats_in (attaches b a m).bus ≡ seats_in b
+    go (Ok tt) e = ap length (attach_done b a m e).turns ∙ length-set b.turns b.count (newcomer a m)
+    go (Err r) e = ap seats_in (attach_refused b a m r e)
 
 queue_seats : (b : Bus) (qq zz pb sb : ℕ) (bytes : List ℕ) → seats_in (queues b qq zz pb sb bytes).bus ≡ seats_in b
 queue_seats b qq zz pb sb bytes = go (queues b qq zz pb sb bytes).verdict refl
   where
-    go : (v : Verdict) → (queues b qq zz pb sb bytes).verdict ≡ v → seats_in (queues b qq zz pb sb bytes).bus ≡ seats_in b
-    go Done e = ap length (queue_done b qq zz pb sb bytes e).changed.here ∙ length-set b.turns _ _
-    go (Refused r) e = ap seats_in (queue_refused b qq zz pb sb bytes r e)
+    go : (v : Result ⊤ Refusal) → (queues b qq zz pb sb bytes).verdict ≡ v → seats_in (queues b qq zz pb sb bytes).bus ≡ seats_in b
+    go (Ok tt) e = ap length (queue_done b qq zz pb sb bytes e).changed.here ∙ length-set b.turns _ _
+    go (Err r) e = ap seats_in (queue_refused b qq zz pb sb bytes r e)
 
 reply_seats : (b : Bus) (a pb sb : ℕ) (bytes : List ℕ) → seats_in (replies b a pb sb bytes).bus ≡ seats_in b
 reply_seats b a pb sb bytes = go (replies b a pb sb bytes).verdict refl
   where
-    go : (v : Verdict) → (replies b a pb sb bytes).verdict ≡ v → seats_in (replies b a pb sb bytes).bus ≡ seats_in b
-    go Done e = ap length (reply_done b a pb sb bytes e).changed.here ∙ length-set b.turns _ _
-    go (Refused r) e = ap seats_in (reply_refused b a pb sb bytes r e)
+    go : (v : Result ⊤ Refusal) → (replies b a pb sb bytes).verdict ≡ v → seats_in (replies b a pb sb bytes).bus ≡ seats_in b
+    go (Ok tt) e = ap length (reply_done b a pb sb bytes e).changed.here ∙ length-set b.turns _ _
+    go (Err r) e = ap seats_in (reply_refused b a pb sb bytes r e)
 
 pub slot_seats : (b : Bus) (h : Sound) → length (slot_heard b h).turns ≡ length b.turns
 unfolding slot_heard
@@ -71,4 +71,3 @@ applied_seats (Queue q z p r from) b s to = queue_seats b q z p r (bytes_from s 
 applied_seats (Run n) b s to = refl
 applied_seats (Heard x) b s to = slot_seats b (sound.Symbol x)
 applied_seats Quiet b s to = slot_seats b sound.Quiet
-applied_seats Bad b s to = refl

@@ -7,7 +7,7 @@ use Rattle.bus.specs.Run.{runs}
 use Rattle.bus.specs.Slot.{slot_run}
 use Rattle.bus.specs.declared.bus.Bus.{Bus}
 use Rattle.bus.specs.declared.find.Query.TheVariants.{WasTold}
-use Rattle.bus.specs.declared.run.Stop.{Stop}
+use Rattle.bus.specs.Run.{Stop}
 
 either : (n : ℕ) (t : Bool) (x y : Stop) → x.left ≤ n → y.left ≤ n → (cond t x y).left ≤ n
 either n true x y p q = p

@@ -9,12 +9,12 @@ use borrow.Author.Tests.{le-ltb, le-leb}
 use lib.Dec.{ltb}
 use lib.ListN.{length, get_or, drop, length-append}
 use lib.Seq.{get_or-append-add, drop-append-add, drop-append_seam, take-append_seam}
-use Rattle.walk.specs.declared.form.Form.{Form}
-use Rattle.walk.specs.declared.form.Form.TheVariants.{Good}
+use Rattle.std.specs.Prelude.{Result, ⊤, Ok}
+use Rattle.walk.specs.declared.form.FormError.{FormError}
 use Rattle.walk.specs.Apply.{bytes_from}
-use Rattle.walk.specs.Field.{byte_at, pair_at, length_at, value_of, field_at, is_bad}
+use Rattle.walk.specs.Field.{byte_at, pair_at, length_at, value_of, field_at}
 use Rattle.walk.specs.Form.{most, form_from, form_of}
-use Rattle.walk.specs.Tagged.{Item, master, slave, reply, queue, run, heard, quiet, value_bytes, tagged, item_bytes, scenario_of, field_of, placed_at}
+use Rattle.walk.specs.Tagged.{Item, master, slave, reply, queue, run, heard, quiet, value_bytes, tagged, item_bytes, scenario_of, placed_at}
 
 -- a byte behind the front
 byte_behind : (front l : List ℕ) (i j : ℕ) → j ≡ length front + i → byte_at (front ++ l) j ≡ get_or l i 0
@@ -105,15 +105,6 @@ tagged_read (heard x) front rest =
     placed_read front v rest 0x06 ∙ simp (value_read front v rest 0x06 0 (length front + 3) (omega arith) (omega arith))
 tagged_read quiet front rest = placed_read front [] rest 0x07
 
-not_bad : (i : Item) (at : ℕ) → is_bad (field_of i at) ≡ false
-not_bad (master a) at = refl
-not_bad (slave a) at = refl
-not_bad (reply a p q ds) at = refl
-not_bad (queue q z p r ds) at = refl
-not_bad (run n) at = refl
-not_bad (heard x) at = refl
-not_bad quiet at = refl
-
 -- and so are the data of a reply and of a telegram
 data_behind : (front head ds rest : List ℕ) (from to : ℕ) → from ≡ length front + length head → to ≡ from + length ds
     → bytes_from (front ++ (head ++ (ds ++ rest))) from to ≡ ds
@@ -141,17 +132,17 @@ queue_data_read q z p r ds front rest =
 
 -- ---- fields one after the other are read in order, and none of them is bad
 
-either : (t : Bool) (f : Form) → f ≡ Good → cond t f Good ≡ Good
+either : (t : Bool) (f : Result ⊤ FormError) → f ≡ Ok tt → cond t f (Ok tt) ≡ Ok tt
 either true f e = e
 either false f e = refl
 
-on_behind : (k : ℕ) (front : List ℕ) (i : Item) (l : List ℕ) → form_from k ((front ++ item_bytes i) ++ l) (length (front ++ item_bytes i)) ≡ Good
-    → form_from k (front ++ (item_bytes i ++ l)) (length front + 3 + length (value_bytes i)) ≡ Good
+on_behind : (k : ℕ) (front : List ℕ) (i : Item) (l : List ℕ) → form_from k ((front ++ item_bytes i) ++ l) (length (front ++ item_bytes i)) ≡ Ok tt
+    → form_from k (front ++ (item_bytes i ++ l)) (length front + 3 + length (value_bytes i)) ≡ Ok tt
 on_behind k front i l e =
     let n : length (front ++ item_bytes i) ≡ length front + 3 + length (value_bytes i) = omega (arith, length-append front (item_bytes i)) in
     rw n at (rw append_assoc at e)
 
-in_order : (k : ℕ) (front : List ℕ) (is : List Item) → form_from k (front ++ scenario_of is) (length front) ≡ Good
+in_order : (k : ℕ) (front : List ℕ) (is : List Item) → form_from k (front ++ scenario_of is) (length front) ≡ Ok tt
 unfolding form_from scenario_of
 in_order zero front is = refl
 in_order (suc k) front [] =
@@ -159,9 +150,9 @@ in_order (suc k) front [] =
     simp (le-ltb (length front) (length (front ++ [])) n)
 in_order (suc k) front (i ∷ is) =
     either (ltb (length front) (length (front ++ (item_bytes i ++ scenario_of is)))) _
-    (simp (tagged_read i front (scenario_of is), not_bad i (length front)) (on_behind k front i (scenario_of is) (in_order k (front ++ item_bytes i) is)))
+    (simp (tagged_read i front (scenario_of is)) (on_behind k front i (scenario_of is) (in_order k (front ++ item_bytes i) is)))
 
 -- so a scenario of fields, of at most 65,536 bytes, has good form
-pub fields_good : (is : List Item) → length (scenario_of is) ≤ most → form_of (scenario_of is) ≡ Good
+pub fields_good : (is : List Item) → length (scenario_of is) ≤ most → form_of (scenario_of is) ≡ Ok tt
 unfolding form_of
 fields_good is h = simp (le-ltb most (length (scenario_of is)) h) (in_order (length (scenario_of is)) [] is)

@@ -4,6 +4,7 @@ use Rattle.bus.specs.Bus.{powered_on}
 use Rattle.bus.specs.declared.bus.Bus.{Bus}
 use Rattle.walk.specs.Moments.{Now}
 use Rattle.walk.specs.Walk.{before, is_end, to_go, walked}
+use Rattle.walk.specs.declared.follow.Listening.{Listening}
 use Rattle.walk.specs.declared.walk.Moment.{Moment}
 use Rattle.walk.specs.declared.walk.Moment.TheVariants.{Called, Told, Passed, Ended}
 use Rattle.walk.specs.declared.walk.Place.{Place}
@@ -40,6 +41,21 @@ told_at Ended b rest = rest
 unfoldable pub told_buses : List Now → List Bus
 told_buses [] = []
 told_buses (n ∷ ns) = told_at n.moment n.bus (told_buses ns)
+
+-- the same from a place on, to the scenario's end
+unfoldable pub told_from : ℕ → Bus → Place → List ℕ → List Bus
+told_from zero b p s = []
+told_from (suc k) b p s =
+    let n = walked b p s false in
+    let rest = told_from k n.bus n.place s in
+    cond (is_end n.moment) [] (told_at n.moment n.bus rest)
+
+unfoldable pub told_on : Bus → Place → List ℕ → List Bus
+told_on b p s = told_from (suc (to_go p s)) b p s
+
+-- what an iterator over them has still to give
+abbrev pub told_left : Listening → List Bus
+told_left t = told_on t.bus t.place t.s.now
 
 -- some slots, one after the other
 unfoldable pub heard_slots : {A : Type 0} → (A → Bus → A) → A → List Bus → A

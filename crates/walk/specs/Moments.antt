@@ -1,18 +1,18 @@
 -- The moments of a scenario: what its fields come to, one after the other, each with the bus as it then stands. Assumes nothing.
-use Rattle.std.specs.Prelude.{◌≡◌, Bool, true, false, cond, List, [], ◌∷◌, ◌++◌, ℕ, zero, suc, ltb, length}
+use Rattle.std.specs.Prelude.{◌≡◌, Bool, true, false, cond, List, [], ◌∷◌, ◌++◌, ℕ, zero, suc, ltb, length, Option, Some, None}
 use Rattle.bus.specs.Bus.{powered_on}
 use Rattle.bus.specs.Find.{there_is}
 use Rattle.bus.specs.Slot.{slot_run}
 use Rattle.bus.specs.declared.bus.Bus.{Bus}
-use Rattle.bus.specs.declared.bus.Answer.{Answer}
+use Rattle.bus.specs.Bus.{Answer}
 use Rattle.bus.specs.declared.find.Query.TheVariants.{WasTold}
 use Rattle.walk.specs.declared.field.Field.{Field}
-use Rattle.walk.specs.declared.field.Field.TheVariants.{Master, Slave, Reply, Queue, Run, Heard, Quiet, Bad}
+use Rattle.walk.specs.declared.field.Field.TheVariants.{Master, Slave, Reply, Queue, Run, Heard, Quiet}
 use Rattle.walk.specs.declared.walk.Moment.{Moment}
 use Rattle.walk.specs.declared.walk.Moment.TheVariants.{Called, Told, Passed, Ended}
 use Rattle.walk.specs.Field.{field_at}
 use Rattle.walk.specs.declared.walk.Place.{Place}
-use Rattle.walk.specs.declared.walk.Step.{Step}
+use Rattle.walk.specs.Walk.{Step}
 use Rattle.walk.specs.Apply.{applied}
 use Rattle.walk.specs.Walk.{is_end, walked}
 
@@ -56,14 +56,18 @@ gone_as (Queue q z p s f) r = called_by r
 gone_as (Run n) r = ran n r.bus
 gone_as (Heard x) r = heard_by r
 gone_as Quiet r = heard_by r
-gone_as Bad r = record { bus = r.bus; moments = [] }
+
+-- nothing where there is no field
+abbrev pub gone_by : Option Field → Bus → List ℕ → ℕ → Gone
+gone_by (Some f) b s to = gone_as f (applied b f s to)
+gone_by None b s to = record { bus = b; moments = [] }
 
 -- field after field, each applied in order, and each with its end; then the end
 unfoldable pub moments_from : ℕ → List ℕ → ℕ → Bus → List Now
 moments_from zero s at b = now Ended b ∷ []
 moments_from (suc k) s at b =
     let p = field_at s at in
-    let done = gone_as p.field (applied b p.field s p.next) in
+    let done = gone_by p.field b s p.next in
     let rest = done.moments ++ (now Passed done.bus ∷ moments_from k s p.next done.bus) in
     cond (ltb at (length s)) rest (now Ended b ∷ [])
 

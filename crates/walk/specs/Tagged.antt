@@ -1,6 +1,6 @@
 -- A scenario as whoever writes one has it, and its bytes: for each field its tag, the length of its value in two bytes (high byte
 -- first), and its value. Assumes nothing.
-use Rattle.std.specs.Prelude.{List, [], ◌∷◌, ◌++◌, ℕ, ◌+◌, ◌/◌, ◌%◌, length}
+use Rattle.std.specs.Prelude.{List, [], ◌∷◌, ◌++◌, ℕ, ◌+◌, ◌/◌, ◌%◌, length, Some}
 use Rattle.walk.specs.declared.field.Field.{Field}
 use Rattle.walk.specs.declared.field.Field.TheVariants.{Master, Slave, Reply, Queue, Run, Heard, Quiet}
 use Rattle.walk.specs.declared.field.Placed.{Placed}
@@ -54,4 +54,4 @@ field_of (heard x) at = Heard x
 field_of quiet at = Quiet
 
 abbrev pub placed_at : Item → ℕ → Placed
-placed_at i at = record { field = field_of i at; next = at + 3 + length (value_bytes i) }
+placed_at i at = record { field = Some (field_of i at); next = at + 3 + length (value_bytes i) }

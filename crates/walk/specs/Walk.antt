@@ -1,18 +1,17 @@
 -- A walk over a scenario's fields, one moment at a time, with the bus as it then stands. Assumes nothing.
-use Rattle.std.specs.Prelude.{Bool, true, false, cond, not, List, ℕ, zero, suc, ◌+◌, ◌-◌, ◌*◌, ltb, length}
+use Rattle.std.specs.Prelude.{Bool, true, false, cond, not, List, ℕ, zero, suc, ◌+◌, ◌-◌, ◌*◌, ltb, length, Option, Some, None}
 use Rattle.station.specs.declared.phase.Sound.TheVariants as sound
 use Rattle.bus.specs.Find.{there_is}
 use Rattle.bus.specs.Run.{runs}
 use Rattle.bus.specs.Slot.{slot_heard}
 use Rattle.bus.specs.declared.bus.Bus.{Bus}
-use Rattle.bus.specs.declared.bus.Answer.{Answer}
+use Rattle.bus.specs.Bus.{Answer}
 use Rattle.bus.specs.declared.find.Query.TheVariants.{WasTold}
 use Rattle.walk.specs.declared.field.Field.{Field}
-use Rattle.walk.specs.declared.field.Field.TheVariants.{Master, Slave, Reply, Queue, Run, Heard, Quiet, Bad}
+use Rattle.walk.specs.declared.field.Field.TheVariants.{Master, Slave, Reply, Queue, Run, Heard, Quiet}
 use Rattle.walk.specs.declared.walk.Place.{Place}
 use Rattle.walk.specs.declared.walk.Moment.{Moment}
 use Rattle.walk.specs.declared.walk.Moment.TheVariants.{Called, Told, Passed, Ended}
-use Rattle.walk.specs.declared.walk.Step.{Step}
 use Rattle.walk.specs.declared.walk.Task.{Task}
 use Rattle.walk.specs.declared.walk.Task.TheVariants.{Call, Slots, Hear, Pass, End}
 use Rattle.walk.specs.declared.walk.Ahead.{Ahead}
@@ -21,10 +20,10 @@ use Rattle.walk.specs.Apply.{applied}
 
 -- before a field, or within one of which so many slots are still to run
 abbrev pub before : ℕ → Place
-before at = record { at = at; within = false; left = 0 }
+before at = record { at = at; left = None }
 
 abbrev pub within : ℕ → ℕ → Place
-within to left = record { at = to; within = true; left = left }
+within to left = record { at = to; left = Some left }
 
 -- within a field where slots told somebody something, else behind it
 abbrev pub came_to : ℕ → ℕ → Bool → Place
@@ -42,16 +41,28 @@ task_of (Queue q z p s f) = Call (Queue q z p s f)
 task_of (Run n) = slots_left n
 task_of (Heard x) = Hear (sound.Symbol x)
 task_of Quiet = Hear sound.Quiet
-task_of Bad = End
+
+-- where there is no field the scenario is over
+abbrev pub task_as : Option Field → Task
+task_as (Some f) = task_of f
+task_as None = End
 
 abbrev pub ahead : Task → ℕ → Ahead
 ahead t to = record { task = t; to = to }
 
+abbrev pub ahead_as : Option ℕ → ℕ → List ℕ → Ahead
+ahead_as (Some left) at s = ahead (slots_left left) at
+ahead_as None at s = cond (ltb at (length s)) (ahead (task_as (field_at s at).field) (field_at s at).next) (ahead End at)
+
 -- what is next at a place, and where its field ends
 unfoldable pub ahead_of : Place → List ℕ → Ahead
-ahead_of p s =
-    cond p.within (ahead (slots_left p.left) p.at)
-    (cond (ltb p.at (length s)) (ahead (task_of (field_at s p.at).field) (field_at s p.at).next) (ahead End p.at))
+ahead_of p s = ahead_as p.left p.at s
+
+-- a moment, the bus as it then stands, and how far the scenario has gone
+pub record Step : Type 0 where
+  pub bus : Bus
+  pub place : Place
+  pub moment : Moment
 
 abbrev pub stepped : Bus → Place → Moment → Step
 stepped b p m = record { bus = b; place = p; moment = m }
@@ -95,9 +106,13 @@ walked_from (suc k) b p s ends =
     let further = walked_from k n.bus n.place s ends in
     cond (passed_by ends n.moment) further n
 
+abbrev pub slots_to_go : Option ℕ → ℕ
+slots_to_go (Some left) = left + 1
+slots_to_go None = 0
+
 -- no more moments than this are to come: a field has a run of at most 65,535 slots
 unfoldable pub to_go : Place → List ℕ → ℕ
-to_go p s = (length s - p.at) * 65537 + cond p.within (p.left + 1) 0
+to_go p s = (length s - p.at) * 65537 + slots_to_go p.left
 
 -- on to the next moment that is asked for
 unfoldable pub walked : Bus → Place → List ℕ → Bool → Step

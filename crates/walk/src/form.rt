@@ -4,33 +4,32 @@ ghost use Rattle.walk.specs.Form.{form_of};
 
 use crate::field;
 
+// Why a file is no scenario.
 #[derive(Clone, Copy)]
-pub enum Form {
-    Good,
+pub enum FormError {
     // 14, with the offset of its tag.
     BadField(u32),
     // 15
     TooLong,
 }
 
-impl Form {
-    pub const MOST: usize = 65536;
-}
+// So many bytes a scenario may have.
+pub const MOST: usize = 65536;
 
-pub fn form_of(s: &[u8]) -> Form
+pub fn form_of(s: &[u8]) -> Result<(), FormError>
     ensures { result ≡ form_of s.now }
 {
-    if Form::MOST < s.len() {
-        return Form::TooLong;
+    if MOST < s.len() {
+        return Err(FormError::TooLong);
     }
-    let mut at: usize = 0;
+    let mut at = 0;
+    // No `for`: each field says where the next one begins.
     while at < s.len() {
-        let p = field::field_at(s, at);
-        let f = p.field;
-        if f.is_bad() {
-            return Form::BadField(at as u32);
+        let placed = field::field_at(s, at);
+        if placed.field.is_none() {
+            return Err(FormError::BadField(at as u32));
         }
-        at = p.next;
+        at = placed.next;
     }
-    Form::Good
+    Ok(())
 }

@@ -3,5 +3,6 @@
 
 pub mod apply;
 pub mod field;
+pub mod follow;
 pub mod form;
 pub mod walk;

@@ -1,13 +1,13 @@
 // A walk over a scenario's fields, one moment at a time, with the bus as it then stands. Whoever listens to a scenario does
 // so at its moments.
 ghost use Rattle.std.specs.Prelude.{◌≡◌};
-ghost use Rattle.walk.specs.Walk.{before, within, came_to, slots_left, task_of, ahead_of, stepped, called, is_end, walked};
+ghost use Rattle.walk.specs.Walk.{before, within, came_to, slots_left, task_of, ahead_of, stepped, came, next, is_end, passed_by, walked};
 
 use crate::field::Field;
 use crate::{apply, field};
-use bus::bus::{Answer, Bus};
+use bus::bus::Bus;
 use bus::find::Query;
-use bus::refusal::Verdict;
+use bus::refusal::Refusal;
 use station::phase::Sound;
 
 // How far a scenario has gone.
@@ -15,29 +15,20 @@ use station::phase::Sound;
 pub struct Place {
     // Where the next field begins.
     pub at: usize,
-    // Whether a field is under way, and how many of its slots are still to run.
-    pub within: bool,
-    pub left: u32,
+    // How many slots of the field under way are still to run; none where no field is under way.
+    pub left: Option<u32>,
 }
 
 #[derive(Clone, Copy)]
 pub enum Moment {
     // A call was made.
-    Called(Verdict),
+    Called(Result<(), Refusal>),
     // A slot told somebody something.
     Told,
     // A field is over.
     Passed,
     // The scenario is over.
     Ended,
-}
-
-// A moment, the bus as it then stands, and how far the scenario has gone.
-#[derive(Clone, Copy)]
-pub struct Step {
-    pub bus: Bus,
-    pub place: Place,
-    pub moment: Moment,
 }
 
 // What is next: a call, undisturbed slots, a slot heard as given, a field's end, the scenario's end.
@@ -67,25 +58,11 @@ fn task_of(f: Field) -> Task
     ensures { result ≡ task_of f }
 {
     match f {
-        Field::Master(_) => Task::Call(f),
-        Field::Slave(_) => Task::Call(f),
-        Field::Reply {
-            slave: _,
-            pb: _,
-            sb: _,
-            from: _,
-        } => Task::Call(f),
-        Field::Queue {
-            qq: _,
-            zz: _,
-            pb: _,
-            sb: _,
-            from: _,
-        } => Task::Call(f),
+        Field::Master(_) | Field::Slave(_) | Field::Reply { .. } | Field::Queue { .. } =>
+            Task::Call(f),
         Field::Run(n) => slots_left(n),
         Field::Heard(x) => Task::Hear(Sound::Symbol(x)),
         Field::Quiet => Task::Hear(Sound::Quiet),
-        Field::Bad => Task::End,
     }
 }
 
@@ -93,12 +70,14 @@ impl Moment {
     pub fn is_end(self) -> bool
         ensures { result ≡ is_end self }
     {
-        match self {
-            Moment::Called(_) => false,
-            Moment::Told => false,
-            Moment::Passed => false,
-            Moment::Ended => true,
-        }
+        matches!(self, Moment::Ended)
+    }
+
+    // The end of a field is passed by, unless it is asked for.
+    fn passed_by(self, ends: bool) -> bool
+        ensures { result ≡ passed_by ends self }
+    {
+        !ends && matches!(self, Moment::Passed)
     }
 }
 
@@ -107,11 +86,7 @@ impl Place {
     pub fn before(at: usize) -> Place
         ensures { result ≡ before at }
     {
-        Place {
-            at: at,
-            within: false,
-            left: 0,
-        }
+        Place { at, left: None }
     }
 
     pub fn within(to: usize, left: u32) -> Place
@@ -119,8 +94,7 @@ impl Place {
     {
         Place {
             at: to,
-            within: true,
-            left: left,
+            left: Some(left),
         }
     }
 
@@ -135,84 +109,78 @@ impl Place {
         }
     }
 
+    #[tactic(auto, unfolding(crate::specs::Walk::ahead_of))]
     pub fn ahead(self, s: &[u8]) -> Ahead
         ensures { result ≡ ahead_of self s.now }
     {
-        let at = self.at;
-        if self.within {
-            Ahead {
-                task: slots_left(self.left),
-                to: at,
-            }
-        } else if at < s.len() {
-            let p = field::field_at(s, at);
-            let f = p.field;
-            Ahead {
-                task: task_of(f),
-                to: p.next,
-            }
-        } else {
-            Ahead {
-                task: Task::End,
-                to: at,
-            }
+        if let Some(left) = self.left {
+            return Ahead {
+                task: slots_left(left),
+                to: self.at,
+            };
+        }
+        if self.at < s.len() {
+            let placed = field::field_at(s, self.at);
+            return Ahead {
+                task: placed.field.map_or(Task::End, task_of),
+                to: placed.next,
+            };
+        }
+        Ahead {
+            task: Task::End,
+            to: self.at,
         }
     }
 }
 
-fn stepped(b: Bus, p: Place, m: Moment) -> Step
-    ensures { result ≡ stepped b p m }
+// The last slot told somebody something, or the field is over.
+#[tactic(auto, unfolding(crate::specs::Walk::came))]
+fn came(bus: &Bus, place: &mut Place, to: usize, left: u32) -> Moment
+    ensures { stepped bus.now place.new result ≡ came bus.now to left }
 {
-    Step {
-        bus: b,
-        place: p,
-        moment: m,
+    let told = bus.there_is(Query::WasTold);
+    *place = Place::came(to, left, told);
+    if told { Moment::Told } else { Moment::Passed }
+}
+
+// On to the next moment.
+#[tactic(auto, unfolding(crate::specs::Walk::next))]
+fn next(bus: &mut Bus, place: &mut Place, s: &[u8]) -> Moment
+    ensures { stepped bus.new place.new result ≡ next bus.old place.old s.now }
+{
+    let Ahead { task, to } = place.ahead(s);
+    match task {
+        Task::Call(f) => {
+            *place = Place::within(to, 0);
+            Moment::Called(apply::apply(bus, Some(f), s, to))
+        }
+        Task::Slots(n) => {
+            let left = bus.run(n);
+            came(bus, place, to, left)
+        }
+        Task::Hear(x) => {
+            bus.slot_heard(x);
+            came(bus, place, to, 0)
+        }
+        Task::Pass => {
+            *place = Place::before(to);
+            Moment::Passed
+        }
+        Task::End => {
+            *place = Place::before(to);
+            Moment::Ended
+        }
     }
 }
 
-fn called(a: Answer, to: usize) -> Step
-    ensures { result ≡ called a to }
+// On to the next moment that is not passed by. Bus and place stay two: `printed`, `so_far` and `told_on` name them singly.
+pub fn onward(bus: &mut Bus, place: &mut Place, s: &[u8], ends: bool) -> Moment
+    ensures { stepped bus.new place.new result ≡ walked bus.old place.old s.now ends }
 {
-    let b = a.bus;
-    let v = a.verdict;
-    stepped(b, Place::within(to, 0), Moment::Called(v))
-}
-
-// On to the next moment; ends of fields are passed by, unless they are asked for.
-pub fn onward(b: Bus, p: Place, s: &[u8], ends: bool) -> Step
-    ensures { result ≡ walked b p s.now ends }
-{
-    let mut bus = b;
-    let mut place = p;
     loop {
-        let ahead = place.ahead(s);
-        let to = ahead.to;
-        let task = ahead.task;
-        match task {
-            Task::Call(f) => {
-                return called(apply::apply(bus, f, s, to), to);
-            }
-            Task::Slots(n) => {
-                let stop = bus.run(n);
-                bus = stop.bus;
-                if bus.there_is(Query::WasTold) {
-                    return stepped(bus, Place::within(to, stop.left), Moment::Told);
-                }
-            }
-            Task::Hear(x) => {
-                bus = bus.slot_heard(x);
-                if bus.there_is(Query::WasTold) {
-                    return stepped(bus, Place::within(to, 0), Moment::Told);
-                }
-            }
-            Task::Pass => {}
-            Task::End => {
-                return stepped(bus, Place::before(to), Moment::Ended);
-            }
-        }
-        place = Place::before(to);
-        if ends {
-            return stepped(bus, place, Moment::Passed);
+        let moment = next(bus, place, s);
+        if !moment.passed_by(ends) {
+            return moment;
         }
     }
 }

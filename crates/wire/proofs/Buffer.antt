@@ -1,7 +1,7 @@
 -- Symbols put behind those that the wire buffer holds. Assumes nothing.
-use Rattle.std.proofs.Common.{◌≡◌, ℕ, zero, suc, ◌+◌, ◌-◌, ◌≤◌, List, [], ◌∷◌, ◌++◌, length, drop, set, replicate, sym, ap, ◌∙◌, ap₂, add-one, arith, length-append}
-use native.Mathlib.Nat.{sub-zero, zero-sub, suc-sub-suc}
+use Rattle.std.proofs.Common.{◌≡◌, ℕ, ◌+◌, ◌-◌, ◌≤◌, List, [], ◌∷◌, ◌++◌, length, replicate, refl, sym, ap, ◌∙◌, ap₂, add-one, arith, length-append}
 use lib.ListN.{length-replicate}
+use Rattle.std.proofs.lemmas.List.{drop-replicate}
 use lib.Seq.{sets-eq, take-append_seam, drop-append-add}
 use Rattle.wire.specs.declared.form.Wire.{Wire}
 use Rattle.wire.specs.Form.{room, holding, held_by, appended}
@@ -9,15 +9,14 @@ use Rattle.wire.specs.Form.{room, holding, held_by, appended}
 same : {b b' : List ℕ} {l l' : ℕ} → b ≡ b' → l ≡ l' → ◌≡◌ {A = Wire} (record { bytes = b; len = l }) (record { bytes = b'; len = l' })
 same p q i = record { bytes = p i; len = q i }
 
+pub appended_len : (w : Wire) (ys : List ℕ) → (appended w ys).len ≡ w.len + length ys
+unfolding appended
+appended_len w ys = refl
+
 -- two symbols, one after the other
 pub appended_two : (w : Wire) (a b : ℕ) → appended (appended w (a ∷ [])) (b ∷ []) ≡ appended w (a ∷ b ∷ [])
 unfolding appended
 appended_two w a b = same (rw (add-one w.len)) (omega arith)
-
-drop_replicate : (n m a : ℕ) → drop n (replicate m a) ≡ replicate (m - n) a
-drop_replicate zero m a = rw sub-zero
-drop_replicate (suc n) zero a = rw zero-sub
-drop_replicate (suc n) (suc m) a = drop_replicate n m a ∙ rw suc-sub-suc
 
 pub appended_holding : (xs ys : List ℕ) → length xs + length ys ≤ room → appended (holding xs) ys ≡ holding (xs ++ ys)
 unfolding appended holding
@@ -27,8 +26,12 @@ appended_holding xs ys h =
     same
     (sets-eq ys (xs ++ rest) (length xs) (simp (length-append, length-replicate) (omega arith))
     ∙ ap₂ (λ (u v : List ℕ). u ++ ys ++ v) (take-append_seam xs rest)
-    (drop-append-add xs rest (length ys) ∙ drop_replicate (length ys) (room - length xs) 0 ∙ ap (λ (n : ℕ). replicate n 0) e))
+    (drop-append-add xs rest (length ys) ∙ drop-replicate {X = ℕ} (length ys) (room - length xs) 0 ∙ ap (λ (n : ℕ). replicate n 0) e))
     (sym (length-append xs ys))
+
+pub holding_len : (xs : List ℕ) → (holding xs).len ≡ length xs
+unfolding holding
+holding_len xs = refl
 
 -- what a buffer that holds xs is read as
 pub held_len : (w : Wire) (xs : List ℕ) → w ≡ holding xs → w.len ≡ length xs
@@ -44,9 +47,8 @@ unfolding holding
 held_room w xs p h =
     ap (λ (v : Wire). length v.bytes) p ∙ simp (length-append, length-replicate) (omega arith)
 
--- four symbols, each stored at its place in an empty buffer
-pub four_stored : (w : Wire) (a b c d : ℕ) → w ≡ holding []
-    → ◌≡◌ {A = Wire} (record { bytes = set (set (set (set w.bytes 0 a) 1 b) 2 c) 3 d; len = 4 }) (holding (a ∷ b ∷ c ∷ d ∷ []))
-unfolding holding
-four_stored w a b c d e =
-    ap (λ (v : Wire). record { bytes = set (set (set (set v.bytes 0 a) 1 b) 2 c) 3 d; len = 4 }) e
+-- four symbols, one after the other, put into an empty buffer
+pub four_appended : (a b c d : ℕ)
+    → appended (appended (appended (appended (holding []) (a ∷ [])) (b ∷ [])) (c ∷ [])) (d ∷ []) ≡ holding (a ∷ b ∷ c ∷ d ∷ [])
+unfolding appended holding
+four_appended a b c d = refl

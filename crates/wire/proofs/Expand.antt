@@ -5,11 +5,6 @@ use Rattle.wire.specs.Pair.{expand_as, expand_one, expand}
 use Rattle.wire.specs.declared.symbol.Kind.{Kind}
 use Rattle.wire.specs.declared.symbol.Kind.TheVariants.{Syn, Escape, Count, Plain}
 
--- a byte goes out as its kind says
-pub expand_kind : (b : ℕ) (k : Kind) → kind_of b ≡ k → expand_one b ≡ expand_as k b
-unfolding expand_one
-expand_kind b k e = ap (λ (j : Kind). expand_as j b) e
-
 pub expand_append : (xs ys : List ℕ) → expand (xs ++ ys) ≡ expand xs ++ expand ys
 unfolding expand
 expand_append [] ys = refl

@@ -1,5 +1,5 @@
 // The expansion undone: what a symbol of data or CRC stands for.
-ghost use Rattle.std.specs.Prelude.{◌≡◌, ◌-◌};
+ghost use Rattle.std.specs.Prelude.{◌≡◌};
 ghost use Rattle.wire.specs.Pair.{undo, undo_first, undo_second};
 
 use crate::symbol;
@@ -24,6 +24,7 @@ pub enum Undone {
 }
 
 // `opened`: an A9 stands before the symbol; `at`: where the symbol stands in its part, from 0.
+#[tactic(auto, unfolding(crate::specs::Pair::undo))]
 pub fn undo(opened: bool, at: u8, symbol: u8) -> Undone
     ensures { result ≡ undo opened at symbol }
 {
@@ -34,14 +35,14 @@ pub fn undo(opened: bool, at: u8, symbol: u8) -> Undone
     }
 }
 
+#[tactic(auto, unfolding(crate::specs::Pair::undo_first))]
 fn first(symbol: u8) -> Undone
     ensures { result ≡ undo_first symbol }
 {
     match symbol::kind_of(symbol) {
         Kind::Syn => Undone::Ends,
         Kind::Escape => Undone::Opens,
-        Kind::Count => Undone::Byte(symbol),
-        Kind::Plain => Undone::Byte(symbol),
+        Kind::Count | Kind::Plain => Undone::Byte(symbol),
     }
 }
 
@@ -53,16 +54,10 @@ fn second(at: u8, symbol: u8) -> Undone
         0x00 => Undone::Byte(0xA9),
         0x01 => Undone::Byte(0xAA),
         0xAA => Undone::Ends,
+        // Its A9 stands one place before it.
         _ => Undone::Broken(WrongPair {
-            position: before(at),
-            symbol: symbol,
+            position: at.saturating_sub(1),
+            symbol,
         }),
     }
-}
-
-// The place before; the first has none.
-fn before(at: u8) -> u8
-    ensures { result ≡ at - 1 }
-{
-    if at == 0 { 0 } else { at - 1 }
 }

@@ -11,6 +11,7 @@ pub enum Part {
 }
 
 // What a part carries: the first `nn` of `bytes`.
+// Array and count, as in Wire; the definitions also say what a count above 16 means (`count_of`).
 #[derive(Clone, Copy)]
 pub struct Load {
     pub nn: u8,
@@ -28,6 +29,7 @@ pub struct Telegram {
 }
 
 // How many of so many bytes a load has room for.
+#[tactic(auto, using(laws::proofs::AtMost::at_most_room), unfolding(crate::specs::Load::fitting))]
 pub(crate) fn fitting(len: usize) -> u8
     ensures { result ≡ fitting len }
 {
@@ -35,22 +37,17 @@ pub(crate) fn fitting(len: usize) -> u8
 }
 
 impl Part {
+    // Two tests of one case each, as `is_some` and `is_none` are.
     pub fn is_master(self) -> bool
         ensures { result ≡ is_master_part self }
     {
-        match self {
-            Part::MasterPart => true,
-            Part::AnswerPart => false,
-        }
+        matches!(self, Part::MasterPart)
     }
 
     pub fn is_answer(self) -> bool
         ensures { result ≡ is_answer_part self }
     {
-        match self {
-            Part::MasterPart => false,
-            Part::AnswerPart => true,
-        }
+        matches!(self, Part::AnswerPart)
     }
 }
 
@@ -68,20 +65,14 @@ impl Load {
     }
 
     // The bytes of a slice, as far as there is room.
+    #[tactic(auto, using(crate::proofs::Fitting::fits_sixteen, crate::proofs::Fitting::fits_length))]
     pub fn of(s: &[u8]) -> Load
         ensures { result ≡ load_of s.now }
     {
         let nn = fitting(s.len());
         let n = nn as usize;
-        let mut bytes = [0u8; Load::MOST];
-        let mut i: usize = 0;
-        while i < n {
-            bytes[i] = s[i];
-            i += 1;
-        }
-        Load {
-            nn: nn,
-            bytes: bytes,
-        }
+        let mut bytes = [0; Load::MOST];
+        bytes[..n].copy_from_slice(&s[..n]);
+        Load { nn, bytes }
     }
 }

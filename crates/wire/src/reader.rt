@@ -58,6 +58,7 @@ pub struct Step {
 }
 
 // What comes behind `read` data bytes.
+#[tactic(auto, unfolding(crate::specs::Reader::place_after))]
 fn place_after(read: u8, nn: u8) -> Place
     ensures { result ≡ place_after read nn }
 {
@@ -70,6 +71,7 @@ fn place_after(read: u8, nn: u8) -> Place
 
 impl Cursor {
     // A master part begins with QQ, an answer with NN.
+    #[tactic(auto, unfolding(crate::specs::Reader::master_start, crate::specs::Reader::answer_start))]
     pub fn start(part: Part) -> Cursor
         ensures { result ≡ start_of part }
     {
@@ -84,7 +86,7 @@ impl Cursor {
     {
         Cursor {
             at: 0,
-            place: place,
+            place,
             opened: false,
             register: 0,
             nn: 0,
@@ -92,86 +94,70 @@ impl Cursor {
     }
 
     // One symbol more of the part; AA always ends the reading.
+    #[tactic(auto, unfolding(crate::specs::Reader::read_one))]
     pub fn read(self, part: Telegram, s: u8) -> Step
         ensures { result ≡ read_one self part s }
     {
         match symbol::kind_of(s) {
             Kind::Syn => self.ended(part, Outcome::Cut),
-            Kind::Escape => self.read_place(part, s, Kind::Escape),
-            Kind::Count => self.read_place(part, s, Kind::Count),
-            Kind::Plain => self.read_place(part, s, Kind::Plain),
+            kind => self.read_place(part, s, kind),
         }
     }
 
+    #[tactic(auto, unfolding(crate::specs::Reader::ended))]
     fn ended(self, part: Telegram, outcome: Outcome) -> Step
         ensures { result ≡ ended self part outcome }
     {
         Step {
-            outcome: outcome,
+            outcome,
             cursor: self,
-            part: part,
+            part,
         }
     }
 
     // The cursor behind a symbol that the CRC covers.
+    #[tactic(auto, unfolding(crate::specs::Reader::onward))]
     fn onward(self, s: u8, place: Place, opened: bool) -> Cursor
         ensures { result ≡ onward self s place opened }
     {
-        let at = std::num::wrapping_add_u8(self.at, 1);
-        let register = crc::step(self.register, s);
         Cursor {
-            at: at,
-            place: place,
-            opened: opened,
-            register: register,
-            nn: self.nn,
+            at: self.at.wrapping_add(1),
+            place,
+            opened,
+            register: crc::step(self.register, s),
+            ..self
         }
     }
 
+    #[tactic(auto, unfolding(crate::specs::Reader::more))]
     fn more(self, part: Telegram) -> Step
         ensures { result ≡ more self part }
     {
         Step {
             outcome: Outcome::More,
             cursor: self,
-            part: part,
+            part,
         }
     }
 
     // QQ, ZZ, PB, SB, NN, data, CRC.
+    #[tactic(auto, unfolding(crate::specs::Reader::read_place))]
     fn read_place(self, part: Telegram, s: u8, kind: Kind) -> Step
         ensures { result ≡ read_place self part s kind }
     {
-        let place = self.place;
-        match place {
+        let escape = kind.is_escape();
+        match self.place {
             Place::Qq => self.read_qq(part, s),
-            Place::Zz => self.read_head(
-                part,
-                s,
-                kind.is_escape(),
-                Place::Pb,
-                Telegram { zz: s, ..part },
-            ),
-            Place::Pb => self.read_head(
-                part,
-                s,
-                kind.is_escape(),
-                Place::Sb,
-                Telegram { pb: s, ..part },
-            ),
-            Place::Sb => self.read_head(
-                part,
-                s,
-                kind.is_escape(),
-                Place::Nn,
-                Telegram { sb: s, ..part },
-            ),
+            Place::Zz => self.read_head(part, s, escape, Place::Pb, Telegram { zz: s, ..part }),
+            Place::Pb => self.read_head(part, s, escape, Place::Sb, Telegram { pb: s, ..part }),
+            Place::Sb => self.read_head(part, s, escape, Place::Nn, Telegram { sb: s, ..part }),
             Place::Nn => self.read_nn(part, s, kind.is_count()),
             Place::Data(read) => self.read_data(part, read, s),
             Place::Crc => self.read_crc(part, s),
         }
     }
 
+    #[tactic(auto, unfolding(crate::specs::Reader::read_qq))]
     fn read_qq(self, part: Telegram, s: u8) -> Step
         ensures { result ≡ read_qq self part s }
     {
@@ -184,6 +170,7 @@ impl Cursor {
     }
 
     // ZZ, PB and SB are anything but A9; `next` is the place behind it.
+    #[tactic(auto, unfolding(crate::specs::Reader::read_head))]
     fn read_head(self, part: Telegram, s: u8, escape: bool, next: Place, with: Telegram) -> Step
         ensures { result ≡ read_head self part s escape next with }
     {
@@ -194,22 +181,19 @@ impl Cursor {
         }
     }
 
-    fn read_nn(self, part: Telegram, s: u8, counts: bool) -> Step
+    #[tactic(auto, unfolding(crate::specs::Reader::read_nn))]
+    fn read_nn(self, mut part: Telegram, s: u8, counts: bool) -> Step
         ensures { result ≡ read_nn self part s counts }
     {
-        if counts {
-            let c = self.onward(s, place_after(0, s), false);
-            let load = part.load;
-            let counted = Load { nn: s, ..load };
-            Cursor { nn: s, ..c }.more(Telegram {
-                load: counted,
-                ..part
-            })
-        } else {
-            self.ended(part, Outcome::TooLong)
+        if !counts {
+            return self.ended(part, Outcome::TooLong);
         }
+        part.load.nn = s;
+        let cursor = self.onward(s, place_after(0, s), false);
+        Cursor { nn: s, ..cursor }.more(part)
     }
 
+    #[tactic(auto, unfolding(crate::specs::Reader::read_data))]
     fn read_data(self, part: Telegram, read: u8, s: u8) -> Step
         ensures { result ≡ read_data self part read s }
     {
@@ -221,36 +205,32 @@ impl Cursor {
         }
     }
 
-    fn read_byte(self, part: Telegram, read: u8, s: u8, b: u8) -> Step
+    #[tactic(auto, unfolding(crate::specs::Reader::read_byte))]
+    fn read_byte(self, mut part: Telegram, read: u8, s: u8, b: u8) -> Step
         ensures { result ≡ read_byte self part read s b }
     {
         let i = read as usize;
-        if i < Load::MOST {
-            let mut load = part.load;
-            load.bytes[i] = b;
-            let nn = self.nn;
-            self.onward(s, place_after(read + 1, nn), false)
-                .more(Telegram { load: load, ..part })
-        } else {
-            self.ended(part, Outcome::TooLong)
+        if i >= Load::MOST {
+            return self.ended(part, Outcome::TooLong);
         }
+        part.load.bytes[i] = b;
+        self.onward(s, place_after(read + 1, self.nn), false)
+            .more(part)
     }
 
     // The CRC does not cover itself: the register stays.
+    #[tactic(auto, unfolding(crate::specs::Reader::read_crc))]
     fn read_crc(self, part: Telegram, s: u8) -> Step
         ensures { result ≡ read_crc self part s }
     {
         match pair::undo(self.opened, self.at, s) {
             Undone::Byte(b) => self.ended(part, Outcome::Whole(b == self.register)),
-            Undone::Opens => {
-                let at = std::num::wrapping_add_u8(self.at, 1);
-                Cursor {
-                    at: at,
-                    opened: true,
-                    ..self
-                }
-                .more(part)
+            Undone::Opens => Cursor {
+                at: self.at.wrapping_add(1),
+                opened: true,
+                ..self
             }
+            .more(part),
             Undone::Ends => self.ended(part, Outcome::Cut),
             Undone::Broken(pair) => self.ended(part, Outcome::BrokenPair(pair)),
         }

@@ -26,22 +26,12 @@ impl Kind {
     pub(crate) fn is_escape(self) -> bool
         ensures { result ≡ is_escape self }
     {
-        match self {
-            Kind::Syn => false,
-            Kind::Escape => true,
-            Kind::Count => false,
-            Kind::Plain => false,
-        }
+        matches!(self, Kind::Escape)
     }
 
     pub(crate) fn is_count(self) -> bool
         ensures { result ≡ is_count self }
     {
-        match self {
-            Kind::Syn => false,
-            Kind::Escape => false,
-            Kind::Count => true,
-            Kind::Plain => false,
-        }
+        matches!(self, Kind::Count)
     }
 }

@@ -1,19 +1,16 @@
--- `crc::of` meets its contract: what is left to feed, fed to the register, gives the whole's check symbol.
-use borrow.Author.Rules.{rules}
-use mathlib.Core.Path.{sym, ◌∙◌, refl}
-use Rattle.crc.specs.Crc.{crc_of}
-use Rattle.crc.proofs.Feed.{feed_one, feed_none}
+-- `crc::of` meets its contract: the definition is a fold too.
+use Rattle.std.proofs.Common.{rules, ◌≡◌, ℕ, refl, List, [], ◌∷◌, ◌∙◌, fold}
+use Rattle.std.proofs.lemmas.Iterator.{YieldsList-from_slice}
+use Rattle.std.proofs.lemmas.Iterator.Consumers.{fold_from_yields_List}
+use Rattle.crc.specs.Crc.{crc_step, crc_from, crc_of}
 use Rattle.crc.proofs.of.Goals as goal
 
-pub loop-i-init : goal.loop-i-init
-unfolding crc_of
-loop-i-init c = (search rules, refl)
-
-pub loop-i-preserved : goal.loop-i-preserved
-loop-i-preserved c = (
-  search rules,
-  rw (c.step-register.ensures, ← feed_one c.args.symbols.now c.loop-i.i c.loop-i.register c.loop-i-test.true) c.loop-i.invariant.1,
-)
+folded : (register : ℕ) (symbols : List ℕ) → fold crc_step register symbols ≡ crc_from register symbols
+unfolding crc_from
+folded register [] = refl
+folded register (s ∷ ss) = folded (crc_step register s) ss
 
 pub returns : goal.returns
-returns c = sym (feed_none _ _ _ c.loop-i-test.false) ∙ c.loop-i.invariant.1
+unfolding crc_of
+returns c =
+    fold_from_yields_List _ crc_step _ _ c.fold.ensures.ran (YieldsList-from_slice c.args.symbols.now cc) (λ a x b q k. search rules) ∙ folded 0 c.args.symbols.now

@@ -1,24 +1,23 @@
--- `crc::step` meets its contract: the steps that are left, from what is reduced so far, give the whole.
-use mathlib.Core.Path.{◌≡◌, ◌∙◌, refl}
-use Prim.Native.Nat.{ℕ, zero, suc, ◌-◌, ◌≤◌, ◌<◌}
-use native.Mathlib.Nat.{not-suc-le-zero}
-use native.Mathlib.Numerals.{unary_clauses}
+-- `crc::step` meets its contract: what is reduced so far has been multiplied by x once for each turn.
+use Rattle.std.proofs.Common.{◌≡◌, ℕ, zero, suc, refl, ap, ◌∙◌, add-one}
+use Rattle.std.proofs.Math.Nat.{le_antisymm}
 use Rattle.crc.specs.Crc.{times_x, times_xⁿ, crc_step}
 use Rattle.crc.proofs.step.Goals as goal
 
-one_more : (n r : ℕ) → 0 < n → times_xⁿ (n - 1) (times_x r) ≡ times_xⁿ n r
+one_more : (n r : ℕ) → times_xⁿ (suc n) r ≡ times_x (times_xⁿ n r)
 unfolding times_xⁿ
-one_more zero r h = absurd (not-suc-le-zero h)
-one_more (suc n) r h = simp unary_clauses
+one_more zero r = refl
+one_more (suc n) r = one_more n (times_x r)
 
-none_left : (n r : ℕ) → n ≤ 0 → r ≡ times_xⁿ n r
+pub loop-init : goal.loop-init
 unfolding times_xⁿ
-none_left zero r h = refl
-none_left (suc n) r h = absurd (not-suc-le-zero h)
+loop-init c = refl
 
-pub loop-steps-preserved : goal.loop-steps-preserved
-loop-steps-preserved c = rw c.times_x-reduced.ensures (one_more _ _ c.loop-steps-test.true ∙ c.loop-steps.invariant)
+pub loop-preserved : goal.loop-preserved
+loop-preserved c =
+    rw (add-one, one_more c.loop.counter _) (c.times_x-reduced.ensures ∙ ap times_x c.loop.invariant)
 
 pub returns : goal.returns
 unfolding crc_step
-returns c = rw (none_left _ _ c.loop-steps-test.false ∙ c.loop-steps.invariant)
+returns c =
+    rw (c.loop.invariant, le_antisymm c.loop.auto.counter-end c.loop-test.false)

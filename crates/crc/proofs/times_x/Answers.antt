@@ -15,13 +15,13 @@ pub returns-then-shifted-lt256 : goal.returns-then-shifted-lt256
 unfolding times_x
 returns-then-shifted-lt256 c =
     let r = c.args.register in
-    simp (up r c.ranges.register.fits, lt-ltb r 128 (omega arith))
+    simp (c.from-shifted.ensures, up r c.ranges.register.fits, lt-ltb r 128 (omega arith))
 
 pub returns-else-shifted-lt256 : goal.returns-else-shifted-lt256
 unfolding times_x
 returns-else-shifted-lt256 c =
     let r = c.args.register in
-    simp (up r c.ranges.register.fits, le-ltb r 128 (omega arith))
+    simp (c.from-shifted.ensures, up r c.ranges.register.fits, le-ltb r 128 (omega arith))
 
 pub overflow_cast-result-else-shifted-lt256 : goal.overflow_cast-result-else-shifted-lt256
 overflow_cast-result-else-shifted-lt256 c =

@@ -7,7 +7,7 @@ use Prim.Native.Nat.{ℕ, zero, suc, ◌≤◌}
 use native.Mathlib.Omega.{arith}
 use Rattle.address.specs.Master.{rank_of}
 use Rattle.address.proofs.Ranks.{ten_before_one}
-use Rattle.address.specs.declared.Rank.TheVariants.{Of}
+use Rattle.std.specs.Prelude.{Some, None}
 use Rattle.station.specs.Outbox.{held_in}
 use Rattle.station.specs.declared.phase.Sound.TheVariants.{Symbol}
 use Rattle.station.specs.declared.phase.Told.TheVariants.{Silence, Owns, Taken, Free, Given}
@@ -54,7 +54,7 @@ record Computed : Type 0 where
   nought : (station_at begins 2).address ≡ 0x00
   admitted : (station_at begins 2).admitted ≡ true
   holds : held_in (station_at begins 2).outbox ≡ 1
-  rank : rank_of 0x00 ≡ Of 0
+  rank : rank_of 0x00 ≡ Some 0
   told : lines begins (slots 12) ≡ twelve
 
 computed : Computed

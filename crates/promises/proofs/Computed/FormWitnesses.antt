@@ -12,7 +12,7 @@ use Rattle.wire.specs.declared.part.Part.{Part}
 use Rattle.wire.specs.declared.part.Part.TheVariants.{MasterPart, AnswerPart}
 use Rattle.wire.specs.declared.part.Telegram.{Telegram}
 use Rattle.wire.specs.declared.reader.Outcome.TheVariants.{Whole}
-use Rattle.bus.specs.declared.refusal.Verdict.TheVariants.{Done}
+use Rattle.std.specs.Prelude.{Ok, Err}
 use Rattle.bus.specs.Bus.{powered_on}
 use Rattle.promises.specs.Calls.{Call, attach, queue, reply, after_calls, Reachable}
 use Rattle.promises.specs.Slots.{verdict_on}
@@ -27,11 +27,11 @@ two_reachable : Reachable (after_calls powered_on two)
 two_reachable = by_calls two (omega arith)
 
 -- 10 is to send 50 02 with AA to 08, and 08 to answer 64 (01's P2 and P6)
-part_accepted : verdict_on (after_calls powered_on two) (queue 0x10 0x08 0x50 0x02 (0xAA ∷ [])) ≡ Done
+part_accepted : verdict_on (after_calls powered_on two) (queue 0x10 0x08 0x50 0x02 (0xAA ∷ [])) ≡ Ok tt
 unfolding run
 part_accepted = refl
 
-answer_accepted : verdict_on (after_calls powered_on two) (reply 0x08 0x50 0x02 (0x64 ∷ [])) ≡ Done
+answer_accepted : verdict_on (after_calls powered_on two) (reply 0x08 0x50 0x02 (0x64 ∷ [])) ≡ Ok tt
 unfolding run
 answer_accepted = refl
 

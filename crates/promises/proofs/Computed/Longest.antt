@@ -11,7 +11,7 @@ use Rattle.station.specs.declared.phase.Sound.{Sound}
 use Rattle.station.specs.declared.phase.Sound.TheVariants.{Symbol}
 use Rattle.station.specs.declared.phase.Told.TheVariants.{Taken, Given, Answered}
 use Rattle.bus.specs.declared.bus.Bus.{Bus}
-use Rattle.bus.specs.declared.refusal.Verdict.TheVariants.{Done}
+use Rattle.std.specs.Prelude.{Ok, Err}
 use Rattle.bus.specs.Bus.{powered_on}
 use Rattle.bus.specs.Slot.{spoken, slot_run}
 use Rattle.promises.specs.Accepted.{telegram_of}
@@ -36,11 +36,11 @@ abbrev pub longest_answer : List ℕ
 longest_answer =
     0xA9 ∷ 0xA9 ∷ 0xAA ∷ 0xAA ∷ 0xA9 ∷ 0xA9 ∷ 0xA9 ∷ 0xA9 ∷ 0xA9 ∷ 0xA9 ∷ 0xA9 ∷ 0xA9 ∷ 0xAA ∷ 0xA9 ∷ 0xA9 ∷ 0xA9 ∷ []
 
-pub longest_accepted : verdict_on (after_calls powered_on two) (queue 0x10 0x08 0x50 0x02 longest) ≡ Done
+pub longest_accepted : verdict_on (after_calls powered_on two) (queue 0x10 0x08 0x50 0x02 longest) ≡ Ok tt
 unfolding run
 longest_accepted = refl
 
-pub longest_answer_accepted : verdict_on (after_calls powered_on two) (reply 0x08 0x50 0x02 longest_answer) ≡ Done
+pub longest_answer_accepted : verdict_on (after_calls powered_on two) (reply 0x08 0x50 0x02 longest_answer) ≡ Ok tt
 unfolding run
 longest_answer_accepted = refl
 

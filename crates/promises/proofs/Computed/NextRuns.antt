@@ -6,8 +6,7 @@ use Prim.Native.Nat.{ℕ, ◌<◌}
 use lib.Count.{count_trailing_zeros}
 use Rattle.address.specs.Master.{rank_of, master_at}
 use Rattle.ranks.specs.Bits.{with_rank, least_of}
-use Rattle.ranks.specs.declared.Next.{Next}
-use Rattle.ranks.specs.declared.Next.TheVariants.{Master, Nobody}
+use Rattle.std.specs.Prelude.{Option, Some, None}
 use Rattle.station.specs.Station.{syn}
 use Rattle.station.specs.declared.phase.Sound.TheVariants.{Symbol}
 use Rattle.bus.specs.Bus.{attached_to}
@@ -22,16 +21,16 @@ use Rattle.promises.proofs.Computed.TwelfthRun.{three, before, begins, after, th
 use Rattle.promises.proofs.NextOwns.{next_owns_by_the_twelfth}
 
 -- the answer after each of some calls
-abbrev pub answers : Bus → List Call → List Next
+abbrev pub answers : Bus → List Call → List (Option ℕ)
 answers b [] = []
 answers b (c ∷ cs) = next_of (after_call b c) ∷ answers (after_call b c) cs
 
 -- the SYN, 01 queues, the word 00, 00 queues too late, nine quiet slots, a SYN for the marked alone, and 10 owns
-abbrev pub p9_answers : List Next
+abbrev pub p9_answers : List (Option ℕ)
 p9_answers =
-    Master 0x10 ∷ Master 0x10 ∷ Nobody ∷ Nobody
-    ∷ Nobody ∷ Nobody ∷ Nobody ∷ Nobody ∷ Nobody ∷ Nobody ∷ Nobody ∷ Nobody ∷ Nobody
-    ∷ Master 0x10 ∷ Nobody ∷ []
+    Some 0x10 ∷ Some 0x10 ∷ None ∷ None
+    ∷ None ∷ None ∷ None ∷ None ∷ None ∷ None ∷ None ∷ None ∷ None
+    ∷ Some 0x10 ∷ None ∷ []
 
 -- 00 queues in time
 abbrev pub in_time : List Call
@@ -39,10 +38,10 @@ in_time = slot ∷ queue 0x01 0x08 0x50 0x02 [] ∷ queue 0x00 0x08 0x50 0x02 []
 
 pub record Computed : Type 0 where
   pub sends_aa : spoken three ≡ Symbol syn
-  pub nobody_yet : next_of three ≡ Nobody
-  pub ten : next_of begins ≡ Master 0x10
+  pub nobody_yet : next_of three ≡ None
+  pub ten : next_of begins ≡ Some 0x10
   pub p9 : answers three (slot ∷ queue 0x01 0x08 0x50 0x02 [] ∷ slot ∷ after) ≡ p9_answers
-  pub nought : answers three in_time ≡ Master 0x10 ∷ Master 0x10 ∷ Master 0x00 ∷ Nobody ∷ []
+  pub nought : answers three in_time ≡ Some 0x10 ∷ Some 0x10 ∷ Some 0x00 ∷ None ∷ []
 
 pub next_computed : Computed
 unfolding three begins run next_of least_of with_rank with_bid count_trailing_zeros rank_of master_at

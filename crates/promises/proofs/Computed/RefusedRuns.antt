@@ -7,8 +7,8 @@ use Prim.Native.Nat.{ℕ}
 use lib.ListN.{take, replicate}
 use Rattle.bus.specs.Bus.{powered_on}
 use Rattle.bus.specs.Refusal.{refusal_number}
-use Rattle.bus.specs.declared.refusal.Verdict.{Verdict}
-use Rattle.bus.specs.declared.refusal.Verdict.TheVariants.{Done, Refused}
+use Rattle.std.specs.Prelude.{Result, Ok, Err, ⊤}
+use Rattle.bus.specs.declared.refusal.Refusal.{Refusal}
 use Rattle.promises.specs.Calls.{Call, attach, queue, reply, slot, after_calls}
 use Rattle.promises.specs.Slots.{verdict_on}
 use Rattle.promises.proofs.Computed.Runs.{run}
@@ -23,9 +23,9 @@ pub record Turned : Type 0 where
 abbrev row : List Call → Call → ℕ → Turned
 row cs c n = record { calls = cs; call = c; number = n }
 
-abbrev pub number_given : Verdict → ℕ
-number_given Done = 0
-number_given (Refused r) = refusal_number r
+abbrev pub number_given : Result ⊤ Refusal → ℕ
+number_given (Ok tt) = 0
+number_given (Err r) = refusal_number r
 
 -- the number that the definitions give
 abbrev pub given : Turned → ℕ

@@ -12,9 +12,7 @@ use lib.Dec.{T, eqb, ltb, eqb→eq, ltb→lt}
 use Rattle.laws.proofs.Computed.{all, below, both, both_left, both_right}
 use Rattle.address.specs.Half.{half_index, low_half, high_half, class_of, sub_of}
 use Rattle.address.specs.Master.{in_row, found, is_master, rank_at, rank_of}
-use Rattle.address.specs.declared.Index.{Index}
-use Rattle.address.specs.declared.Index.TheVariants.{At, Nowhere}
-use Rattle.address.specs.declared.Rank.TheVariants.{Of}
+use Rattle.std.specs.Prelude.{Option, Some, None}
 
 -- ---- the halves
 
@@ -24,7 +22,7 @@ unfolding half_index
 row_small x e = go (eqb x 0) (eqb x 1) (eqb x 3) (eqb x 7) (eqb x 15) refl refl refl refl refl e
   where
     go : (a b c d f : Bool) → eqb x 0 ≡ a → eqb x 1 ≡ b → eqb x 3 ≡ c → eqb x 7 ≡ d → eqb x 15 ≡ f
-        → found (cond a (At 0) (cond b (At 1) (cond c (At 2) (cond d (At 3) (cond f (At 4) Nowhere))))) ≡ true → x < 16
+        → found (cond a (Some 0) (cond b (Some 1) (cond c (Some 2) (cond d (Some 3) (cond f (Some 4) None))))) ≡ true → x < 16
     go true b c d f p q r s t e = omega (arith, eqb-true x 0 p)
     go false true c d f p q r s t e = omega (arith, eqb-true x 1 q)
     go false false true d f p q r s t e = omega (arith, eqb-true x 3 r)
@@ -33,9 +31,9 @@ row_small x e = go (eqb x 0) (eqb x 1) (eqb x 3) (eqb x 7) (eqb x 15) refl refl 
     go false false false false false p q r s t e = absurd (false≢true e)
 
 -- the place of a half, as a number
-place : Index → ℕ
-place (At i) = i
-place Nowhere = 5
+place : Option ℕ → ℕ
+place (Some i) = i
+place None = 5
 
 -- the second test where the first passes
 if_passed : Bool → Bool → Bool
@@ -136,13 +134,13 @@ module _ (a b : ℕ) (m : is_master a ≡ true) (n : is_master b ≡ true) where
 abbrev pub NotAfter : ℕ → ℕ → Type 0
 NotAfter a c = (low_half a < low_half c) ⊎ ((low_half a ≡ low_half c) × (high_half a ≤ high_half c))
 
-rank_at_lem : (c s : Index) → found c ≡ true → found s ≡ true → rank_at c s ≡ Of (5 * place c + place s)
+rank_at_lem : (c s : Option ℕ) → found c ≡ true → found s ≡ true → rank_at c s ≡ Some (5 * place c + place s)
 unfolding place
-rank_at_lem (At c) (At s) p q = refl
-rank_at_lem (At c) Nowhere p q = absurd (false≢true q)
-rank_at_lem Nowhere s p q = absurd (false≢true p)
+rank_at_lem (Some c) (Some s) p q = refl
+rank_at_lem (Some c) None p q = absurd (false≢true q)
+rank_at_lem None s p q = absurd (false≢true p)
 
-rank_is : (a : ℕ) → is_master a ≡ true → rank_of a ≡ Of (5 * place (half_index (low_half a)) + place (half_index (high_half a)))
+rank_is : (a : ℕ) → is_master a ≡ true → rank_of a ≡ Some (5 * place (half_index (low_half a)) + place (half_index (high_half a)))
 unfolding rank_of class_of sub_of
 rank_is a m = rank_at_lem (half_index (low_half a)) (half_index (high_half a)) (master_low a m) (master_high a m)
 
@@ -164,13 +162,13 @@ five : (c s d t : ℕ) → s < 5 → t < 5 → 5 * c + s ≤ 5 * d + t → (c < 
 five c s d t hs ht h = ⊎_elim (λ e. inr (e, omega arith)) inl (eq-or-lt_of_le (omega arith))
 
 -- a rank that is not greater: a lesser class, or the same class and no greater sub-address
-pub not_after : (a c r q : ℕ) → is_master a ≡ true → is_master c ≡ true → rank_of a ≡ Of r → rank_of c ≡ Of q → r ≤ q → NotAfter a c
+pub not_after : (a c r q : ℕ) → is_master a ≡ true → is_master c ≡ true → rank_of a ≡ Some r → rank_of c ≡ Some q → r ≤ q → NotAfter a c
 not_after a c r q m n e f h =
     ⊎_elim (λ l. inl (lesser (lows a c m n) l)) (λ p. inr (same_class p.0, not_more (highs c a n m) p.1))
     (five (place (half_index (low_half a))) (place (half_index (high_half a))) (place (half_index (low_half c))) (place (half_index (high_half c)))
     (place_below (high_half a) (master_high a m)) (place_below (high_half c) (master_high c n)) sums)
   where
-    rank_of_lem : (x y : ℕ) → Of x ≡ Of y → x ≡ y
+    rank_of_lem : (x y : ℕ) → Some x ≡ Some y → x ≡ y
     rank_of_lem x y e = cc
 
     sums : 5 * place (half_index (low_half a)) + place (half_index (high_half a)) ≤ 5 * place (half_index (low_half c)) + place (half_index (high_half c))

@@ -7,13 +7,12 @@ use Prim.Native.Nat.{ℕ, zero, suc, ◌+◌, ◌≤◌}
 use native.Mathlib.Omega.{arith}
 use lib.Dec.{ltb}
 use lib.ListN.{length, get_or, set, length-set}
-use Rattle.laws.specs.declared.Found.{Found}
-use Rattle.laws.specs.declared.Found.TheVariants.{At, Missing}
+use Rattle.std.specs.Prelude.{Option, Some, None}
 use Rattle.wire.specs.declared.part.Telegram.{Telegram}
 use Rattle.station.specs.Outbox.{queue_depth, held_in, accepted}
 use Rattle.station.specs.Replies.{written}
 use Rattle.station.specs.declared.outbox.Outbox.{Outbox}
-use Rattle.station.specs.declared.outbox.Accepted.{Accepted}
+use Rattle.station.specs.Outbox.{Accepted}
 use Rattle.station.specs.declared.replies.Reply.{Reply}
 use Rattle.station.specs.declared.station.Station.{Station}
 use Rattle.station.specs.declared.station.Turn.{Turn}
@@ -22,7 +21,7 @@ use Rattle.bus.specs.Find.{first_of}
 use Rattle.bus.specs.Queue.{holds, queues_from, queues_at, queues, no_target, no_command}
 use Rattle.bus.specs.Reply.{writes, replies_from, replies_at, replies}
 use Rattle.bus.specs.declared.bus.Bus.{Bus}
-use Rattle.bus.specs.declared.bus.Answer.{Answer}
+use Rattle.bus.specs.Bus.{Answer}
 use Rattle.bus.specs.declared.find.Query.TheVariants.{Master, Slave}
 use Rattle.promises.specs.Calls.{Call, attach, after_call}
 use Rattle.promises.specs.Contest.{Between, attaching, queued, replied}
@@ -112,14 +111,14 @@ holds_keeps b i t =
     }))
     (same_bus b)
 
-queue_keeps : (b : Bus) (f : Found) (zz pb sb : ℕ) (bytes : List ℕ) → KeepsAll b (queues_at f b zz pb sb bytes).bus
+queue_keeps : (b : Bus) (f : Option ℕ) (zz pb sb : ℕ) (bytes : List ℕ) → KeepsAll b (queues_at f b zz pb sb bytes).bus
 unfolding queues_from refused_by
-queue_keeps b (At i) zz pb sb bytes =
+queue_keeps b (Some i) zz pb sb bytes =
     either b (no_target (turn_at b i).station zz) _ _ (same_bus b)
     (either b (no_command pb sb) _ _ (same_bus b)
     (either b (ltb 16 (length bytes)) _ _ (same_bus b)
     (holds_keeps b i _)))
-queue_keeps b Missing zz pb sb bytes = same_bus b
+queue_keeps b None zz pb sb bytes = same_bus b
 
 writes_keeps : (b : Bus) (i : ℕ) (r : Reply) → KeepsAll b (writes b i r).bus
 unfolding writes with_turn done refused_by turn_at
@@ -137,13 +136,13 @@ writes_keeps b i r =
     }))
     (same_bus b)
 
-reply_keeps : (b : Bus) (f : Found) (pb sb : ℕ) (bytes : List ℕ) → KeepsAll b (replies_at f b pb sb bytes).bus
+reply_keeps : (b : Bus) (f : Option ℕ) (pb sb : ℕ) (bytes : List ℕ) → KeepsAll b (replies_at f b pb sb bytes).bus
 unfolding replies_from refused_by
-reply_keeps b (At i) pb sb bytes =
+reply_keeps b (Some i) pb sb bytes =
     either b (no_command pb sb) _ _ (same_bus b)
     (either b (ltb 16 (length bytes)) _ _ (same_bus b)
     (writes_keeps b i _))
-reply_keeps b Missing pb sb bytes = same_bus b
+reply_keeps b None pb sb bytes = same_bus b
 
 -- once a slot has run, every attach is refused
 attach_keeps : (b : Bus) → b.ran ≡ true → {a : ℕ} {m : Bool} {x : Answer} → Did b (attach a m) x → KeepsAll b x.bus

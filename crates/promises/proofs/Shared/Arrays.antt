@@ -10,14 +10,13 @@ use Rattle.wire.specs.declared.part.Telegram.{Telegram}
 use Rattle.station.specs.Outbox.{queue_depth, no_telegram, none_held, accepted, oldest_of, dropped}
 use Rattle.station.specs.Replies.{reply_entries, no_reply, no_entries, entry_of, entry_at, with_entry, added, written_at, written, load_at, answer_for}
 use Rattle.station.specs.declared.outbox.Outbox.{Outbox}
-use Rattle.station.specs.declared.outbox.Accepted.{Accepted}
+use Rattle.station.specs.Outbox.{Accepted}
 use Rattle.station.specs.declared.phase.Told.{Told}
 use Rattle.station.specs.declared.phase.Told.TheVariants.{Silence, Owns, Taken, Failed, Free, FailedFree, Given, Answered}
-use Rattle.laws.specs.declared.Found.{Found}
-use Rattle.laws.specs.declared.Found.TheVariants.{At, Missing}
+use Rattle.std.specs.Prelude.{Option, Some, None}
 use Rattle.station.specs.declared.replies.Reply.{Reply}
 use Rattle.station.specs.declared.replies.ReplyBook.{ReplyBook}
-use Rattle.station.specs.declared.replies.Written.{Written}
+use Rattle.station.specs.Replies.{Written}
 use Rattle.station.proofs.Turned.{outbox_after}
 use Rattle.laws.proofs.FirstIs.{Every, none, next}
 pub use Rattle.laws.proofs.FirstIs.{every_append}
@@ -102,15 +101,15 @@ written_full k r f w = at (entry_of k r.pb r.sb)
     room true = every_set w k.held r f
     room false = w
 
-    at : (e : Found) → AllEntriesFull (written_at e k r).book
-    at (At i) = every_set w i r f
-    at Missing = room (ltb k.held reply_entries)
+    at : (e : Option ℕ) → AllEntriesFull (written_at e k r).book
+    at (Some i) = every_set w i r f
+    at None = room (ltb k.held reply_entries)
 
 -- so what a slave answers has an array of 16 bytes
 pub answer_full : (k : ReplyBook) (pb sb : ℕ) → AllEntriesFull k → Sixteen (answer_for k pb sb)
 unfolding answer_for entry_at
 answer_full k pb sb w = at (entry_of k pb sb)
   where
-    at : (e : Found) → Sixteen (load_at e k)
-    at (At i) = every_get_d w i no_reply refl
-    at Missing = refl
+    at : (e : Option ℕ) → Sixteen (load_at e k)
+    at (Some i) = every_get_d w i no_reply refl
+    at None = refl

@@ -6,8 +6,7 @@ use native.Mathlib.Omega.{arith}
 use lib.ListN.{length, get_or}
 use lib.Seq.{get_or-take, length-take-le}
 use Rattle.laws.specs.First.{first_from, is_found}
-use Rattle.laws.specs.declared.Found.{Found}
-use Rattle.laws.specs.declared.Found.TheVariants.{At, Missing}
+use Rattle.std.specs.Prelude.{Option, Some, None}
 use Rattle.laws.proofs.FirstIs.{found_at, missing_at}
 use Rattle.bus.specs.Bus.{unseated, attached_to, attached_turns, turn_at}
 use Rattle.bus.specs.Find.{meets, first_of, there_is}
@@ -29,9 +28,9 @@ module _ (q : Query) (b : Bus) (w : Whole b) where
   unfolding there_is first_of
   asked_one i l e = go (first_from (meets q) 0 (attached_turns b)) refl
     where
-      go : (f : Found) → first_from (meets q) 0 (attached_turns b) ≡ f → is_found f ≡ true
-      go (At k) r = refl
-      go Missing r =
+      go : (f : Option ℕ) → first_from (meets q) 0 (attached_turns b) ≡ f → is_found f ≡ true
+      go (Some k) r = refl
+      go None r =
           absurd (true≢false (sym e ∙ sym (in_seat i l) ∙ missing_at (meets q) unseated (attached_turns b) r i (omega (arith, seats_taken))))
 
   -- it holds of none
@@ -39,9 +38,9 @@ module _ (q : Query) (b : Bus) (w : Whole b) where
   unfolding there_is first_of
   asked_each e = go (first_from (meets q) 0 (attached_turns b)) refl
     where
-      go : (f : Found) → first_from (meets q) 0 (attached_turns b) ≡ f → is_found f ≡ false
-      go (At k) r =
+      go : (f : Option ℕ) → first_from (meets q) 0 (attached_turns b) ≡ f → is_found f ≡ false
+      go (Some k) r =
           let found = found_at (meets q) unseated k (attached_turns b) r in
           let l : k < attached_to b = omega (arith, seats_taken, found.within) in
           absurd (false≢true (sym (e k l) ∙ sym (in_seat k l) ∙ found.passes))
-      go Missing r = refl
+      go None r = refl

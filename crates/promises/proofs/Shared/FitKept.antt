@@ -11,8 +11,7 @@ use borrow.Author.Tests.{eqb-true, eq-eqb}
 use lib.Dec.{eqb}
 use lib.ListN.{length, length-set}
 use Rattle.laws.specs.First.{first_from, is_found}
-use Rattle.laws.specs.declared.Found.{Found}
-use Rattle.laws.specs.declared.Found.TheVariants.{At, Missing}
+use Rattle.std.specs.Prelude.{Option, Some, None}
 use Rattle.address.specs.Role.{role_of}
 use Rattle.address.specs.Master.{is_master, slave_of}
 use Rattle.address.specs.declared.Role as R
@@ -25,7 +24,7 @@ use Rattle.station.specs.declared.station.Station.{Station}
 use Rattle.station.specs.declared.station.Turn.{Turn}
 use Rattle.station.proofs.Frame.{hears_lasting, ready_lasting}
 use Rattle.bus.specs.declared.bus.Bus.{Bus}
-use Rattle.bus.specs.declared.bus.Answer.{Answer}
+use Rattle.bus.specs.Bus.{Answer}
 use Rattle.bus.specs.declared.find.Query.TheVariants.{Holder}
 use Rattle.bus.specs.Bus.{seats, powered_on, attached_to, attached_turns, turn_at, with_bits}
 use Rattle.bus.specs.Find.{meets, first_of, there_is}
@@ -72,9 +71,9 @@ nobody_has : (b : Bus) (a : ℕ) → length b.turns ≡ seats → there_is b (Ho
 unfolding there_is first_of
 nobody_has b a w e i h = go (first_from (meets (Holder a)) 0 (attached_turns b)) refl e
   where
-    go : (f : Found) → first_from (meets (Holder a)) 0 (attached_turns b) ≡ f → is_found f ≡ false → is_own (station_at b i) a ≡ false
-    go (At j) q e = absurd (true≢false e)
-    go Missing q e = every_seat (λ (t : Turn). meets (Holder a) t ≡ false) b w (missing_each (meets (Holder a)) 0 (attached_turns b) q) i h
+    go : (f : Option ℕ) → first_from (meets (Holder a)) 0 (attached_turns b) ≡ f → is_found f ≡ false → is_own (station_at b i) a ≡ false
+    go (Some j) q e = absurd (true≢false e)
+    go None q e = every_seat (λ (t : Turn). meets (Holder a) t ≡ false) b w (missing_each (meets (Holder a)) 0 (attached_turns b) q) i h
 
 -- what a newcomer would answer to, nobody does
 apart_from : (b : Bus) (a : ℕ) (m : Bool) → length b.turns ≡ seats → occupied b a m ≡ false → (i x : ℕ) → i < attached_to b

@@ -10,8 +10,7 @@ use lib.Dec.{eqb, ltb}
 use lib.ListN.{length, get_or}
 use lib.Seq.{get_or-take, length-take-le}
 use Rattle.laws.specs.First.{first_from}
-use Rattle.laws.specs.declared.Found.{Found}
-use Rattle.laws.specs.declared.Found.TheVariants.{At, Missing}
+use Rattle.std.specs.Prelude.{Option, Some, None}
 use Rattle.address.specs.Half.{half_index}
 use Rattle.address.specs.Role.{role_of}
 use Rattle.address.specs.Master.{is_master, slave_of}
@@ -28,11 +27,11 @@ use Rattle.station.specs.declared.station.Station.{Station}
 use Rattle.station.proofs.Turned.{outbox_after}
 use Rattle.station.proofs.Waiting.{Kept, none_waiting, held_waiting, accepted_queued, accepted_full, oldest_first, dropped_rest, dropped_none}
 use Rattle.bus.specs.declared.bus.Bus.{Bus}
-use Rattle.bus.specs.declared.bus.Answer.{Answer}
+use Rattle.bus.specs.Bus.{Answer}
 use Rattle.bus.specs.declared.find.Query.TheVariants.{Master}
 use Rattle.bus.specs.declared.refusal.Refusal.{Refusal}
 use Rattle.bus.specs.declared.refusal.Refusal.TheVariants.{NoTarget, NoCommand, TooMuchData, OutboxFull, NoMaster}
-use Rattle.bus.specs.declared.refusal.Verdict.TheVariants.{Done, Refused}
+use Rattle.std.specs.Prelude.{Ok, Err}
 use Rattle.bus.specs.Bus.{seats, unseated, powered_on, attached_to, attached_turns, turn_at, refused_by, done, with_bits}
 use Rattle.bus.specs.Find.{meets, first_of, is_master_at}
 use Rattle.bus.specs.Queue.{unusable, no_target, no_command, holds, queues_from, queues_at, queues}
@@ -119,18 +118,18 @@ module _ (a : ℕ) (m : Bool) where
 -- ---- what a queue call did
 
 pub data QueueDid (b : Bus) : Answer → Type 0 where
-  turned_away : (r : Refusal) → QueueDid b (record { bus = b; verdict = Refused r })
+  turned_away : (r : Refusal) → QueueDid b (record { bus = b; verdict = Err r })
   took : {bits : ℕ} (i : ℕ) (t : Telegram) → i < attached_to b → Outgoing (station_at b i).address (station_at b i).master t
-      → QueueDid b (record { bus = with_bits b i (holding_more (turn_at b i) t) bits; verdict = Done })
+      → QueueDid b (record { bus = with_bits b i (holding_more (turn_at b i) t) bits; verdict = Ok tt })
 
-found : {A : Type 0} (test : A → Bool) (d : A) (i j : ℕ) (l : List A) → first_from test i l ≡ At j
+found : {A : Type 0} (test : A → Bool) (d : A) (i j : ℕ) (l : List A) → first_from test i l ≡ Some j
     → (k : ℕ) × (j ≡ i + k) × (k < length l) × (test (get_or l k d) ≡ true)
 unfolding first_from
 found test d i j [] e = let z : ◌≡◌ {A = ℕ} 0 1 = cc in absurd (omega arith)
 found {A} test d i j (a ∷ l) e = go (test a) refl (found test d (suc i) j l) e
   where
-    go : (t : Bool) → test a ≡ t → (first_from test (suc i) l ≡ At j → (k : ℕ) × (j ≡ suc i + k) × (k < length l) × (test (get_or l k d) ≡ true))
-        → cond t (At i) (first_from test (suc i) l) ≡ At j → (k : ℕ) × (j ≡ i + k) × (k < length (a ∷ l)) × (test (get_or (a ∷ l) k d) ≡ true)
+    go : (t : Bool) → test a ≡ t → (first_from test (suc i) l ≡ Some j → (k : ℕ) × (j ≡ suc i + k) × (k < length l) × (test (get_or l k d) ≡ true))
+        → cond t (Some i) (first_from test (suc i) l) ≡ Some j → (k : ℕ) × (j ≡ i + k) × (k < length (a ∷ l)) × (test (get_or (a ∷ l) k d) ≡ true)
     go true q on e = let f : i ≡ j = cc e in (0, omega arith, omega arith, q)
     go false q on e = let r = on e in (suc r.0, omega (arith, r.1), omega (arith, r.2), r.3)
 
@@ -155,7 +154,7 @@ record IsMaster (b : Bus) (i : ℕ) : Type 0 where
   attached : i < attached_to b
   master : (station_at b i).master ≡ true
 
-master_found : (b : Bus) (qq i : ℕ) → length b.turns ≡ seats → first_of b (Master qq) ≡ At i → IsMaster b i
+master_found : (b : Bus) (qq i : ℕ) → length b.turns ≡ seats → first_of b (Master qq) ≡ Some i → IsMaster b i
 unfolding first_of is_master_at turn_at
 master_found b qq i w e =
     let r = found (meets (Master qq)) unseated 0 i (attached_turns b) e in
@@ -176,8 +175,8 @@ queue_did b qq zz pb sb bytes w = at (first_of b (Master qq)) refl
     telegram : ℕ → Telegram
     telegram i = record { qq = (turn_at b i).station.address; zz = zz; pb = pb; sb = sb; load = load_of bytes }
 
-    at : (f : Found) → first_of b (Master qq) ≡ f → QueueDid b (queues_at f b zz pb sb bytes)
-    at (At i) e =
+    at : (f : Option ℕ) → first_of b (Master qq) ≡ f → QueueDid b (queues_at f b zz pb sb bytes)
+    at (Some i) e =
         let m = master_found b qq i w.array e in
         tested b (no_target (turn_at b i).station zz) (λ _. away b NoTarget) λ n.
         tested b (no_command pb sb) (λ _. away b NoCommand) λ c.
@@ -200,4 +199,4 @@ queue_did b qq zz pb sb bytes w = at (first_of b (Master qq)) refl
           target = n.1;
         }))
         λ _. away b OutboxFull
-    at Missing e = away b NoMaster
+    at None e = away b NoMaster

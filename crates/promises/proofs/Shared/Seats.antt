@@ -11,8 +11,7 @@ use borrow.Author.Tests.{ltb-true}
 use lib.Dec.{ltb}
 use lib.ListN.{length, get_or, set, length-set}
 use lib.Seq.{get_or-set_same, get_or-set_other, get_or-take, length-take-le}
-use Rattle.laws.specs.declared.Found.{Found}
-use Rattle.laws.specs.declared.Found.TheVariants.{At, Missing}
+use Rattle.std.specs.Prelude.{Option, Some, None}
 use Rattle.wire.specs.Load.{load_of}
 use Rattle.wire.specs.Reading.{Sixteen}
 use Rattle.wire.specs.declared.part.Telegram.{Telegram}
@@ -24,10 +23,10 @@ use Rattle.station.specs.declared.phase.Sound.{Sound}
 use Rattle.station.specs.declared.replies.Reply.{Reply}
 use Rattle.station.specs.declared.station.Turn.{Turn}
 use Rattle.bus.specs.declared.bus.Bus.{Bus}
-use Rattle.bus.specs.declared.bus.Answer.{Answer}
+use Rattle.bus.specs.Bus.{Answer}
 use Rattle.bus.specs.declared.find.Query.TheVariants.{Master, Slave}
 use Rattle.bus.specs.declared.refusal.Refusal.{Refusal}
-use Rattle.bus.specs.declared.refusal.Verdict.TheVariants.{Done, Refused}
+use Rattle.std.specs.Prelude.{Ok, Err}
 use Rattle.bus.specs.declared.refusal.Refusal.TheVariants.{NoTarget, NoCommand, TooMuchData, OutboxFull, NoMaster, NoSlave, BookFull, Running, NoSuchAddress, InUse, NoRoom}
 use Rattle.bus.specs.Bus.{seats, unseated, powered_on, attached_to, attached_turns, turn_at, with_turn, refused_by, done, with_bits}
 use Rattle.bus.specs.Find.{first_of}
@@ -62,13 +61,13 @@ answering_more t r =
 
 -- what an answered call did: refused, and the bus is as it was; or done (which bits of those who wait are set is said in bus, Gathered)
 pub data Did (b : Bus) : Call → Answer → Type 0 where
-  refused : {c : Call} (r : Refusal) → Did b c (record { bus = b; verdict = Refused r })
+  refused : {c : Call} (r : Refusal) → Did b c (record { bus = b; verdict = Err r })
   attached : {a : ℕ} {m : Bool} → b.ran ≡ false → no_such_address a m ≡ false → occupied b a m ≡ false → b.count < seats
-      → Did b (attach a m) (record { bus = with_newcomer b a m; verdict = Done })
+      → Did b (attach a m) (record { bus = with_newcomer b a m; verdict = Ok tt })
   queued : {qq zz pb sb : ℕ} {bytes : List ℕ} {bits : ℕ} (i : ℕ) (t : Telegram) → Sixteen t.load
-      → Did b (queue qq zz pb sb bytes) (record { bus = with_bits b i (holding_more (turn_at b i) t) bits; verdict = Done })
+      → Did b (queue qq zz pb sb bytes) (record { bus = with_bits b i (holding_more (turn_at b i) t) bits; verdict = Ok tt })
   replied : {a pb sb : ℕ} {bytes : List ℕ} {bits : ℕ} (i : ℕ) (r : Reply) → Sixteen r.load
-      → Did b (reply a pb sb bytes) (record { bus = with_bits b i (answering_more (turn_at b i) r) bits; verdict = Done })
+      → Did b (reply a pb sb bytes) (record { bus = with_bits b i (answering_more (turn_at b i) r) bits; verdict = Ok tt })
 
 module _ (b : Bus) {c : Call} where
   turned_down : (r : Refusal) → Did b c (refused_by b r)
@@ -94,13 +93,13 @@ did_queue b qq zz pb sb bytes = at (first_of b (Master qq))
     telegram : ℕ → Telegram
     telegram i = record { qq = (turn_at b i).station.address; zz = zz; pb = pb; sb = sb; load = load_of bytes }
 
-    at : (f : Found) → Did b (queue qq zz pb sb bytes) (queues_at f b zz pb sb bytes)
-    at (At i) =
+    at : (f : Option ℕ) → Did b (queue qq zz pb sb bytes) (queues_at f b zz pb sb bytes)
+    at (Some i) =
         tested b (no_target (turn_at b i).station zz) (λ _. turned_down b NoTarget) λ _.
         tested b (no_command pb sb) (λ _. turned_down b NoCommand) λ _.
         tested b (ltb 16 (length bytes)) (λ _. turned_down b TooMuchData) λ _.
         tested b (accepted (turn_at b i).station.outbox (telegram i)).taken (λ _. queued i (telegram i) (load_sixteen bytes)) λ _. turned_down b OutboxFull
-    at Missing = turned_down b NoMaster
+    at None = turned_down b NoMaster
 
 pub did_reply : (b : Bus) (a pb sb : ℕ) (bytes : List ℕ) → Did b (reply a pb sb bytes) (replies b a pb sb bytes)
 unfolding replies replies_from writes with_turn done
@@ -109,12 +108,12 @@ did_reply b a pb sb bytes = at (first_of b (Slave a))
     entry : Reply
     entry = record { pb = pb; sb = sb; load = load_of bytes }
 
-    at : (f : Found) → Did b (reply a pb sb bytes) (replies_at f b pb sb bytes)
-    at (At i) =
+    at : (f : Option ℕ) → Did b (reply a pb sb bytes) (replies_at f b pb sb bytes)
+    at (Some i) =
         tested b (no_command pb sb) (λ _. turned_down b NoCommand) λ _.
         tested b (ltb 16 (length bytes)) (λ _. turned_down b TooMuchData) λ _.
         tested b (written (turn_at b i).station.replies entry).taken (λ _. replied i entry (load_sixteen bytes)) λ _. turned_down b BookFull
-    at Missing = turned_down b NoSlave
+    at None = turned_down b NoSlave
 
 -- ---- seats
 

@@ -21,7 +21,7 @@ use Rattle.station.proofs.Possible.{Possible, fresh_possible, ready_possible, he
 use Rattle.station.proofs.Turned.{outbox_after}
 use Rattle.station.proofs.Waiting.{Kept, none_kept, accepted_kept, dropped_kept}
 use Rattle.bus.specs.declared.bus.Bus.{Bus}
-use Rattle.bus.specs.declared.bus.Answer.{Answer}
+use Rattle.bus.specs.Bus.{Answer}
 use Rattle.bus.specs.Bus.{powered_on, attached_to, turn_at}
 use Rattle.bus.specs.Attach.{newcomer}
 use Rattle.bus.specs.Slot.{turned, slot_heard}

@@ -8,7 +8,7 @@ use native.Mathlib.Omega.{arith}
 use lib.ListN.{replicate}
 use Rattle.bus.specs.declared.bus.Bus.{Bus}
 use Rattle.bus.specs.declared.find.Query.TheVariants.{WasTold}
-use Rattle.bus.specs.declared.run.Stop.{Stop}
+use Rattle.bus.specs.Run.{Stop}
 use Rattle.bus.specs.Bus.{powered_on}
 use Rattle.bus.specs.Find.{there_is}
 use Rattle.bus.specs.Run.{runs}

@@ -16,7 +16,7 @@ use Rattle.station.specs.declared.station.Turn.{Turn}
 use Rattle.station.proofs.Aa.{IsSyn, NoSyn, by_sound}
 use Rattle.station.proofs.AfterSyn.{after_syn}
 use Rattle.bus.specs.declared.bus.Bus.{Bus}
-use Rattle.bus.specs.declared.bus.Answer.{Answer}
+use Rattle.bus.specs.Bus.{Answer}
 use Rattle.bus.specs.Bus.{powered_on, attached_to}
 use Rattle.bus.specs.Attach.{newcomer}
 use Rattle.bus.specs.Slot.{slot_heard}

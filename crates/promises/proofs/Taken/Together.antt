@@ -25,7 +25,7 @@ use Rattle.station.proofs.AfterSyn.{after_syn}
 use Rattle.station.proofs.Frame.{Begins, as_it_stood, answers, ready_begins, ready_lasting, ready_outbox, hears_lasting, outbox_after_lem, admission_over}
 use Rattle.station.proofs.Possible.{ready_possible}
 use Rattle.bus.specs.declared.bus.Bus.{Bus}
-use Rattle.bus.specs.declared.bus.Answer.{Answer}
+use Rattle.bus.specs.Bus.{Answer}
 use Rattle.bus.specs.Bus.{powered_on, attached_to, turn_at, with_bits}
 use Rattle.bus.specs.Attach.{newcomer}
 use Rattle.bus.specs.Slot.{spoken, slot_heard, slot_run}

@@ -1,27 +1,17 @@
--- `diary::follow::follow` meets its contract.
-use mathlib.Core.Path.{refl, sym, ◌∙◌}
-use mathlib.Core.Bool.{false}
-use native.Mathlib.Omega.{arith}
-use borrow.Author.Rules.{rules}
-use Rattle.walk.proofs.Going.{walked_nearer}
-use Rattle.diary.proofs.Following.{follows_first, follows_end, follows_on}
+-- `diary::follow::follow` meets its contract: what is still to be heard, noted, comes to all.
+use mathlib.Core.Path.{sym, ap}
+use Rattle.buslog.specs.Note.{Keeping}
+use Rattle.buslog.specs.Slots.{noted_slots}
+use Rattle.diary.proofs.Following.{follows_told}
 use Rattle.diary.proofs.follow.follow.Goals as goal
 
 pub loop-bus-init : goal.loop-bus-init
-loop-bus-init c = (λ i. omega (arith, c.shared_slice_known-1.given i), refl, follows_first _ _ c.power_on-bus.ensures c.before-place.ensures)
-
-pub returns-then-is_end : goal.returns-then-is_end
-returns-then-is_end c =
-    follows_end c.loop-bus.invariant.2 (sym c.onward-step.ensures) (sym c.is_end.ensures ∙ c.if-is_end.true) c.noted-to.ensures
-
-pub loop-bus-smaller : goal.loop-bus-smaller
-loop-bus-smaller c =
-    rw c.onward-step.ensures
-    (walked_nearer c.loop-bus.bus c.loop-bus.place _ false c.loop-bus.invariant.0 (rw (← c.onward-step.ensures) (sym c.is_end.ensures ∙ c.if-is_end.false)))
+loop-bus-init c = rw (c.into_iter-bus-iterator.ensures.into_iter_gives, c.to-bus-items.ensures) (sym (follows_told c.args.s.now _))
 
 pub loop-bus-preserved : goal.loop-bus-preserved
-loop-bus-preserved c = (
-  c.loop-bus.invariant.0,
-  search rules,
-  follows_on c.loop-bus.invariant.0 c.loop-bus.invariant.2 (sym c.onward-step.ensures) (sym c.is_end.ensures ∙ c.if-is_end.false) c.noted-to.ensures,
-)
+unfolding noted_slots
+loop-bus-preserved c = rw (ap (λ (k : Keeping). k.ring) c.note.ensures) (rw c.in-Some.ensures.steps at c.loop-bus.invariant)
+
+pub returns : goal.returns
+unfolding noted_slots
+returns c = rw c.in-None.ensures.steps.0 at c.loop-bus.invariant

@@ -1,45 +1,17 @@
--- `pairs::Counts::hear` meets its contract.
-use borrow.Author.Rules.{rules}
-use mathlib.Core.Path.{refl}
-use mathlib.Core.Bool.{true, false}
-use native.Mathlib.Omega.{arith}
-use Rattle.laws.proofs.Lists.{length_mapped}
-use Rattle.bus.proofs.Loops.{attached_fit}
+use Rattle.std.proofs.Common.{true, false, take}
 use Rattle.pairs.proofs.HeardLines.{pass_on, pass_end, slot_heard}
 use Rattle.pairs.proofs.Counts.hear.Goals as goal
 
-pub loop-i-init : goal.loop-i-init
-loop-i-init c =
-    let e = c.attached-n.ensures in
-    (search rules, rw e (attached_fit _), e, search (rules, length_mapped), refl)
+pub loop-t-preserved : goal.loop-t-preserved
+loop-t-preserved c =
+    pass_on false (take c.attached.result c.args.b.turns) c.loop-t.t-index _ c.loop-t.h c.loop-t-test.true c.first_of.ensures c.loop-t.invariant
 
-pub loop-i-preserved : goal.loop-i-preserved
-loop-i-preserved c =
-    let b = c.args.b in (
-      omega arith,
-      c.loop-i.invariant.1,
-      c.loop-i.invariant.2,
-      c.loop-i.invariant.3,
-      pass_on false b.turns _ c.loop-i.i _ _ (omega arith) c.loop-i-test.true c.first_of-h.ensures c.loop-i.invariant.4,
-    )
-
-pub loop-j-init : goal.loop-j-init
-loop-j-init c =
-    (search rules, c.loop-i.invariant.1, c.loop-i.invariant.2, c.loop-i.invariant.3, refl)
-
-pub loop-j-preserved : goal.loop-j-preserved
-loop-j-preserved c =
-    let b = c.args.b in (
-      omega arith,
-      c.loop-j.invariant.1,
-      c.loop-j.invariant.2,
-      c.loop-j.invariant.3,
-      pass_on true b.turns _ c.loop-j.j _ _ (omega arith) c.loop-j-test.true c.last_of-h.ensures c.loop-j.invariant.4,
-    )
+pub loop-u-preserved : goal.loop-u-preserved
+loop-u-preserved c =
+    pass_on true (take c.attached.result c.args.b.turns) c.loop-u.u-index _ c.loop-u.h c.loop-u-test.true c.last_of.ensures c.loop-u.invariant
 
 pub returns : goal.returns
 returns c =
-    let args = c.args in
-    slot_heard args.self args.b _ c.attached-n.ensures
-    (pass_end false args.b.turns _ _ _ c.loop-i-test.false c.loop-i.invariant.4)
-    (pass_end true args.b.turns _ _ _ c.loop-j-test.false c.loop-j.invariant.4)
+    slot_heard c.args.self c.args.b c.attached.result c.attached.ensures
+    (pass_end false _ c.loop-t.t-index c.loop-t.h c.loop-t-test.false c.loop-t.invariant)
+    (pass_end true _ c.loop-u.u-index c.loop-u.h c.loop-u-test.false c.loop-u.invariant)

@@ -4,23 +4,6 @@ use borrow.Author.Tests.{lt-ltb, le-ltb}
 use Rattle.sheet.specs.Field.{field_at}
 use Rattle.sheet.proofs.field.field_at.Goals as goal
 
-pub returns-then-n-lt3 : goal.returns-then-n-lt3
-unfolding field_at
-returns-then-n-lt3 c =
-    simp (
-      c.no_field.ensures,
-      lt-ltb _ _ c.if-n-lt3.true,
-    )
-
-pub returns-then-n-at : goal.returns-then-n-at
-unfolding field_at
-returns-then-n-at c =
-    simp (
-      c.no_field-then-n-at.ensures,
-      lt-ltb _ _ c.if-n-at.true,
-      le-ltb _ _ c.if-n-lt3.false,
-    )
-
 pub returns-then-n-from : goal.returns-then-n-from
 unfolding field_at byte_at
 returns-then-n-from c =
@@ -32,9 +15,9 @@ returns-then-n-from c =
       le-ltb _ _ c.if-n-lt3.false,
     )
 
-pub returns-else-n-from : goal.returns-else-n-from
+pub returns : goal.returns
 unfolding field_at byte_at
-returns-else-n-from c =
+returns c =
     simp (
       ← c.entry_of.ensures,
       le-ltb _ _ c.if-n-from.false,

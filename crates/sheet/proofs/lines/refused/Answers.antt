@@ -5,4 +5,4 @@ use Rattle.sheet.proofs.lines.refused.Goals as goal
 
 pub returns : goal.returns
 unfolding refused_line
-returns c = both _ _ _ (both _ _ _ c.word-to.ensures c.decimal-end.ensures) c.word.ensures
+returns c = both _ _ _ (both _ _ _ c.word.ensures c.decimal.ensures) c.word-2.ensures

@@ -1,30 +1,28 @@
--- `tally::follow::follow` meets its contract.
-use mathlib.Core.Path.{sym, ◌∙◌}
-use mathlib.Core.Bool.{false}
-use native.Mathlib.Omega.{arith}
-use Rattle.walk.proofs.Following.{follows_first, follows_end, follows_on}
-use Rattle.walk.proofs.Going.{walked_nearer}
-use Rattle.tally.specs.Follow.{counted_in, followed}
+-- `tally::follow::follow` meets its contract: the slots told, counted one after the other, come to all.
+use mathlib.Core.Path.{◌≡◌, refl, sym, ap, ◌∙◌}
+use mathlib.Core.List.{List, [], ◌∷◌, ◌++◌}
+use Rattle.std.proofs.Common.{rules}
+use Rattle.std.proofs.lemmas.Fn.{fold_over}
+use Rattle.std.proofs.lemmas.Iterator.Consumers.{YieldsList-from_first}
+use Rattle.std.specs.Iterator.{YieldsFirst}
+use Rattle.bus.specs.declared.bus.Bus.{Bus}
+use Rattle.walk.specs.Follow.{heard_slots, told_left}
+use Rattle.walk.proofs.Told.{follows_told}
+use Rattle.pairs.specs.declared.Book.{Book}
+use Rattle.tally.specs.Follow.{unused, counted_in, followed}
 use Rattle.tally.proofs.follow.follow.Goals as goal
 
-pub loop-bus-init : goal.loop-bus-init
-unfolding followed
-loop-bus-init c = (
-  λ i. omega (arith, c.shared_slice_known-1.given i),
-  rw c.unused-book.ensures (follows_first counted_in _ _ c.power_on-bus.ensures c.before-place.ensures),
-)
+-- one slot more
+heard_push : (k : Book) (bs : List Bus) (b : Bus) → heard_slots counted_in k (bs ++ b ∷ []) ≡ counted_in (heard_slots counted_in k bs) b
+unfolding heard_slots
+heard_push k [] b = refl
+heard_push k (a ∷ bs) b = heard_push (counted_in k a) bs b
 
-pub returns-then-is_end : goal.returns-then-is_end
-returns-then-is_end c =
-    follows_end counted_in c.loop-bus.invariant.1 (sym c.onward-step.ensures) (sym c.is_end.ensures ∙ c.if-is_end.true) c.counted-book.ensures
-
-pub loop-bus-smaller : goal.loop-bus-smaller
-loop-bus-smaller c =
-    rw c.onward-step.ensures
-    (walked_nearer c.loop-bus.bus c.loop-bus.place _ false c.loop-bus.invariant.0 (rw (← c.onward-step.ensures) (sym c.is_end.ensures ∙ c.if-is_end.false)))
-
-pub loop-bus-preserved : goal.loop-bus-preserved
-loop-bus-preserved c = (
-  c.loop-bus.invariant.0,
-  follows_on counted_in c.loop-bus.invariant.0 c.loop-bus.invariant.1 (sym c.onward-step.ensures) (sym c.is_end.ensures ∙ c.if-is_end.false) c.counted-book.ensures,
-)
+pub returns : goal.returns
+unfolding followed heard_slots
+returns c =
+    let all : heard_slots counted_in unused (told_left c.to.result) ≡ c.fold.result =
+    fold_over (YieldsFirst told_left) (λ x. x) _ (λ bs k. heard_slots counted_in unused bs ≡ k) _
+    (λ bs k b m f' j called. (heard_push unused bs b ∙ ap (λ (k : Book). counted_in k b) j ∙ search rules, search rules))
+    c.to.result _ _ _ (YieldsList-from_first (λ x. x) told_left _ refl).runs (sym c.unused.ensures) c.fold.ensures.ran in
+    sym all ∙ rw c.to.ensures (sym (follows_told counted_in c.args.s.now unused))

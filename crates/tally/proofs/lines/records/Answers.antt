@@ -1,29 +1,14 @@
--- `tally::lines::records` meets its contract.
-use borrow.Author.Rules.{rules}
-use mathlib.Core.Path.{refl}
-use native.Mathlib.Omega.{arith}
-use Rattle.laws.proofs.AtMost.{at_most_room}
-use Rattle.laws.proofs.Lists.{length_mapped}
-use Rattle.pairs.specs.Counts.{records, in_use}
-use Rattle.scenario.specs.Pen.{pen}
-use Rattle.tally.specs.Book.{records_in}
-use Rattle.tally.proofs.RecordsWritten.{one_written, all_written}
+use Rattle.scenario.proofs.Written.{nothing, one_more, all_of}
+use Rattle.tally.specs.Lines.{records_text}
+use Rattle.tally.proofs.RecordsWritten.{line_of, records_snoc}
 use Rattle.tally.proofs.lines.records.Goals as goal
 
-pub loop-i-init : goal.loop-i-init
-loop-i-init c = (search rules, rw c.at_most-n.ensures (at_most_room c.args.b.counts.used records), search (rules, length_mapped), refl)
+pub loop-p-init : goal.loop-p-init
+unfolding records_text
+loop-p-init c = nothing _
 
-pub loop-i-preserved : goal.loop-i-preserved
-loop-i-preserved c =
-    let t = c.args.b.table in (
-      omega arith,
-      c.loop-i.invariant.1,
-      c.loop-i.invariant.2,
-      one_written t _ c.loop-i.i _ (pen c.loop-i.out c.loop-i.to) (omega arith) c.loop-i-test.true c.pair-to.ensures c.loop-i.invariant.3,
-    )
+pub loop-p-preserved : goal.loop-p-preserved
+loop-p-preserved c = one_more records_text line_of records_snoc _ _ _ _ c.loop-p-test.true c.loop-p.invariant c.pair.ensures
 
 pub returns : goal.returns
-unfolding records_in in_use
-returns c =
-    let t = c.args.b.table in
-    rw (← c.at_most-n.ensures) (all_written t _ c.loop-i.i (pen c.loop-i.out c.loop-i.to) c.loop-i-test.false c.loop-i.invariant.3)
+returns c = all_of records_text _ _ _ c.loop-p-test.false c.loop-p.invariant

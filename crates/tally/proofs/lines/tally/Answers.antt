@@ -1,4 +1,3 @@
--- `tally::lines::tally` meets its contract.
 use Rattle.scenario.proofs.Written.{both}
 use Rattle.tally.specs.Lines.{tally_text}
 use Rattle.tally.proofs.lines.tally.Goals as goal
@@ -6,4 +5,4 @@ use Rattle.tally.proofs.lines.tally.Goals as goal
 pub returns : goal.returns
 unfolding tally_text
 returns c =
-    both _ _ _ (both _ _ _ (both _ _ _ (both _ _ _ c.word-a.ensures c.decimal-b.ensures) c.word-c.ensures) c.decimal-d.ensures) c.word.ensures
+    both _ _ _ (both _ _ _ (both _ _ _ (both _ _ _ c.word.ensures c.decimal.ensures) c.word-2.ensures) c.decimal-2.ensures) c.word-3.ensures

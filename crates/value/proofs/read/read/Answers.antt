@@ -1,13 +1,14 @@
 -- `value::read::read` meets its contract.
-use Rattle.std.proofs.Common.{sym, ◌∙◌}
-use Rattle.value.proofs.ByLength.{of_one, of_two, of_others}
+use Rattle.std.proofs.Common.{sym, ◌∙◌, arith}
+use lib.Ieee.{of_bits}
+use Rattle.value.specs.declared.value.DataType.TheVariants.{Data2b, Data2c}
+use Rattle.value.proofs.ByLength.{of_two}
 use Rattle.value.proofs.read.read.Goals as goal
 
-pub returns-then-bytes-eq1 : goal.returns-then-bytes-eq1
-returns-then-bytes-eq1 c = c.read_one.ensures ∙ sym (of_one _ _ c.if-bytes-eq1.true)
+pub returns-in-Data2b-len2 : goal.returns-in-Data2b-len2
+unfolding of_bits
+returns-in-Data2b-len2 c = rw c.in-Data2b-len2.is-0 (c.read_signed.ensures ∙ sym (of_two Data2b c.args.bytes.now (omega arith)))
 
-pub returns-then-bytes-eq2 : goal.returns-then-bytes-eq2
-returns-then-bytes-eq2 c = c.read_two.ensures ∙ sym (of_two _ _ c.if-bytes-eq2.true)
-
-pub returns : goal.returns
-returns c = sym (of_others _ _ c.if-bytes-eq1.false c.if-bytes-eq2.false)
+pub returns-in-Data2c-len2 : goal.returns-in-Data2c-len2
+unfolding of_bits
+returns-in-Data2c-len2 c = rw c.in-Data2c-len2.is-0 (c.read_signed-in-Data2c-len2.ensures ∙ sym (of_two Data2c c.args.bytes.now (omega arith)))

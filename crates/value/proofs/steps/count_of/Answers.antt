@@ -3,38 +3,18 @@ use lib.Ieee.{of_bits}
 use Rattle.value.specs.Steps.{count_of}
 use Rattle.value.proofs.steps.count_of.Goals as goal
 
-pub returns-in-Steps : goal.returns-in-Steps
+pub returns-in_err-size_of : goal.returns-in_err-size_of
 unfolding count_of of_bits
-returns-in-Steps c =
-    simp (
-      c.in-Steps.is,
-      ← c.size_of-down.ensures,
-      c.if-x.true,
-    )
+returns-in_err-size_of c = simp (c.if-x.true, ← c.size_of.ensures, c.in_err-size_of.was, c.from_residual.ensures)
 
-pub returns-in-NoSteps : goal.returns-in-NoSteps
+pub returns-in_err-size_of-2 : goal.returns-in_err-size_of-2
 unfolding count_of of_bits
-returns-in-NoSteps c =
-    simp (
-      c.in-NoSteps.is,
-      ← c.size_of-down.ensures,
-      c.if-x.true,
-    )
+returns-in_err-size_of-2 c = simp (c.if-x.false, ← c.size_of-else-x.ensures, c.in_err-size_of-2.was, c.from_residual-in_err-size_of-2.ensures)
 
-pub returns-in-Steps-up : goal.returns-in-Steps-up
+pub returns-in_ok-size_of : goal.returns-in_ok-size_of
 unfolding count_of of_bits
-returns-in-Steps-up c =
-    simp (
-      c.in-Steps-up.is,
-      ← c.size_of-up.ensures,
-      c.if-x.false,
-    )
+returns-in_ok-size_of c = simp (c.if-x.true, ← c.size_of.ensures, c.in_ok-size_of.was)
 
-pub returns-in-NoSteps-up : goal.returns-in-NoSteps-up
+pub returns-in_ok-size_of-2 : goal.returns-in_ok-size_of-2
 unfolding count_of of_bits
-returns-in-NoSteps-up c =
-    simp (
-      c.in-NoSteps-up.is,
-      ← c.size_of-up.ensures,
-      c.if-x.false,
-    )
+returns-in_ok-size_of-2 c = simp (c.if-x.false, ← c.size_of-else-x.ensures, c.in_ok-size_of-2.was)

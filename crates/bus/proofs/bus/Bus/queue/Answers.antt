@@ -1,34 +1,39 @@
 -- `bus::bus::Bus::queue` meets its contract.
 use Rattle.std.proofs.Common.{◌≡◌, length, sym, ap, ◌∙◌, arith, rules}
 use Rattle.laws.proofs.Lists.{length_mapped, get_d_within}
-use Rattle.laws.specs.declared.Found.{Found}
-use Rattle.bus.specs.Bus.{seats, turn_at, refused_by}
-use Rattle.bus.specs.Queue.{queues_at, queues}
-use Rattle.bus.proofs.Loops.{attached_fit}
-use Rattle.bus.proofs.RefusedQueue.{found_attached}
+use Rattle.std.specs.Prelude.{Option, ℕ, Result, Ok, Err, ⊤}
+use Rattle.bus.specs.declared.refusal.Refusal.{Refusal}
+use Rattle.bus.specs.Bus.{Answer, seats, turn_at}
+use Rattle.bus.specs.Queue.{queues_at, queues, held, put_back}
+use Rattle.bus.proofs.PutBack.{as_refused}
+use Rattle.bus.proofs.RefusedChangesNothing.{queue_refused}
+use Rattle.bus.proofs.RefusedQueue.{found_seat}
 use Rattle.bus.proofs.bus.Bus.queue.Goals as goal
 
--- the turn goes back into the seat that it came from
-pub returns-then-i-lt-STATIONS : goal.returns-then-i-lt-STATIONS
+pub returns-in_err-hold : goal.returns-in_err-hold
 unfolding queues turn_at
-returns-then-i-lt-STATIONS c =
+returns-in_err-hold c =
     let g = c.args in
-    let full : length g.self.turns ≡ seats = search (rules, length_mapped) in
-    rw c.bits_after.ensures
+    let b = g.self.now in
+    let full : length b.turns ≡ seats = search (rules, length_mapped) in
+    let said : c.from_residual.result ≡ Err c.in_err-hold.field-0.0 = search rules in
+    let told : c.hold.result ≡ Err c.in_err-hold.field-0.0 = search rules in
+    rw said
+    (as_refused b (queues b g.qq g.zz g.pb g.sb g.bytes.now) _
+    (ap (λ (x : Option ℕ). (queues_at x b g.zz g.pb g.sb g.bytes.now).verdict) (sym c.first.ensures ∙ c.in-Some.is)
+    ∙ ap (λ (a : Answer). a.verdict) (c.hold.ensures b _ (sym (get_d_within b.turns _ _ _ (omega (arith, found_seat _ b _ (sym c.first.ensures ∙ c.in-Some.is))))))
+    ∙ told)
+    (queue_refused b g.qq g.zz g.pb g.sb g.bytes.now))
+
+pub returns : goal.returns
+unfolding queues turn_at
+returns c =
+    let g = c.args in
+    let b = g.self.now in
+    let full : length b.turns ≡ seats = search (rules, length_mapped) in
+    let told : c.hold.result ≡ Ok tt = search rules in
+    rw c.with_bid-self.ensures
     (sym
-    (ap (λ (x : Found). queues_at x g.self g.zz g.pb g.sb g.bytes.now) (sym c.first.ensures ∙ c.in-At.is)
-    ∙ c.held-h.ensures g.self _ (sym (get_d_within g.self.turns _ _ _ (omega arith)))))
-
--- what the search found is a seat
-pub returns-else-i-lt-STATIONS : goal.returns-else-i-lt-STATIONS
-returns-else-i-lt-STATIONS c =
-    let b = c.args.self in
-    absurd (omega (arith, attached_fit b, found_attached _ b _ (sym c.first.ensures ∙ c.in-At.is)))
-
-pub returns-in-Missing : goal.returns-in-Missing
-unfolding queues refused_by
-returns-in-Missing c =
-    simp (
-      c.in-Missing.is,
-      ← c.first.ensures,
-    )
+    (ap (λ (x : Option ℕ). queues_at x b g.zz g.pb g.sb g.bytes.now) (sym c.first.ensures ∙ c.in-Some.is)
+    ∙ c.hold.ensures b _ (sym (get_d_within b.turns _ _ _ (omega (arith, found_seat _ b _ (sym c.first.ensures ∙ c.in-Some.is)))))
+    ∙ ap (λ (v : Result ⊤ Refusal). put_back b c.in-Some.i (held c.hold.new.t v)) told))

@@ -1,68 +1,81 @@
 -- `bus::bus::Bus::slot_heard` meets its contract.
-use Rattle.std.proofs.Common.{◌≡◌, ℕ, ◌+◌, ◌%◌, ◌^◌, ◌<◌, false, [], length, sym, refl, ap, ◌∙◌, arith, rules}
-use Rattle.laws.specs.First.{first_from}
+use Rattle.std.proofs.Common.{◌≡◌, ◌≤◌, ◌<◌, false, sym, refl, ap, ◌∙◌, [], ◌++◌, ℕ, List, Bool, length, take, drop, arith, rules}
+use lib.Seq.{set-get_or, length-take-le}
 use Rattle.laws.proofs.Lists.{length_mapped}
-use Rattle.bus.specs.declared.find.Query.TheVariants.{ToldOwns}
-use Rattle.bus.specs.Bus.{attached_to}
+use Rattle.laws.specs.First.{first_from, is_found}
+use Rattle.bus.specs.declared.find.Query.TheVariants.{WasTold, ToldOwns}
 use Rattle.bus.specs.Find.{meets}
-use Rattle.bus.specs.Slot.{turned, map_first, owns_among}
-use Rattle.bus.proofs.Loops.{attached_fit, length_map_first, map_first_turn, map_first_passed, found_passed, found_set, bids_passed, bids_set}
-use Rattle.bus.proofs.PassedBy.{still_unowned, still_unbid, still_turned}
+use Rattle.bus.specs.Slot.{turned, map_first}
+use Rattle.station.specs.declared.station.Turn.{Turn}
+use Rattle.bus.proofs.Loops.{attached_fit, map_first_turn, map_first_passed, found_passed, found_set, bids_passed, bids_set, map_first_front, found_front, bids_front, or_cond, all_asked, same_count}
+use Rattle.bus.proofs.PassedBy.{still_untold, still_unowned, still_unbid, still_turned}
 use Rattle.bus.proofs.Strides.{heard_is, began_is, waiting_is}
+use Rattle.bus.specs.Bus.{seats}
 use Rattle.bus.proofs.bus.Bus.slot_heard.Goals as goal
 
-nobody : false ≡ owns_among 0 []
+nobody : (test : Turn → Bool) → false ≡ is_found (first_from test 0 [])
 unfolding first_from
-nobody = refl
+nobody test = refl
 
-pub loop-i-init : goal.loop-i-init
-loop-i-init c =
-    let e = c.attached-n.ensures in
-    (search rules, rw e (attached_fit _), e, search (rules, length_mapped), refl, refl, refl, refl, nobody, refl)
+pub slice_bounds-t-items-end : goal.slice_bounds-t-items-end
+slice_bounds-t-items-end c =
+    let h : c.attached-n.result ≤ 32 = rw c.attached-n.ensures (attached_fit _) in h
 
-pub loop-i-preserved-then-still : goal.loop-i-preserved-then-still
-loop-i-preserved-then-still c =
-    let g = c.args in
-    let h : c.loop-i.i < length g.self.turns = omega arith in
-    let l = c.loop-i.self.turns in
-    let k : c.loop-i.i < length l = omega (arith, h, ap length c.loop-i.invariant.4, length_map_first (turned g.heard) c.loop-i.i g.self.turns) in
-    let still = sym c.still.ensures ∙ c.if-still.true in (
-      omega arith,
-      c.loop-i.invariant.1,
-      c.loop-i.invariant.2,
-      c.loop-i.invariant.3,
-      map_first_passed (turned g.heard) _ _ _ h c.loop-i.invariant.4 (still_turned g.heard _ still),
-      c.loop-i.invariant.5,
-      c.loop-i.invariant.6,
-      c.loop-i.invariant.7,
-      found_passed (meets ToldOwns) c.loop-i.i l _ k c.loop-i.invariant.8 (still_unowned g.heard _ still),
-      bids_passed c.loop-i.i l _ k c.loop-i.invariant.9 (still_unbid g.heard _ still),
+pub loop-t-init : goal.loop-t-init
+loop-t-init c = (refl, nobody (meets WasTold), nobody (meets ToldOwns), refl)
+
+pub loop-t-preserved-then-still : goal.loop-t-preserved-then-still
+loop-t-preserved-then-still c =
+    let l = c.loop-t.t-items in
+    let i = c.loop-t.t-index in
+    let word = c.args.heard in
+    let k : i < length l = omega arith in
+    let still = sym c.still.ensures ∙ c.if-still.true in
+    rw set-get_or (
+      map_first_passed (turned word) i _ _ c.loop-t-test.true c.loop-t.invariant.0 (still_turned word _ still),
+      found_passed (meets WasTold) i l _ k c.loop-t.invariant.1 (still_untold word _ still),
+      found_passed (meets ToldOwns) i l _ k c.loop-t.invariant.2 (still_unowned word _ still),
+      bids_passed i l _ k c.loop-t.invariant.3 (still_unbid word _ still),
     )
 
-pub loop-i-preserved : goal.loop-i-preserved
-loop-i-preserved c =
-    let g = c.args in
-    let h : c.loop-i.i < length g.self.turns = omega arith in
-    let l = c.loop-i.self.turns in
-    let k : c.loop-i.i < length l = omega (arith, h, ap length c.loop-i.invariant.4, length_map_first (turned g.heard) c.loop-i.i g.self.turns) in (
-      omega arith,
-      c.loop-i.invariant.1,
-      c.loop-i.invariant.2,
-      c.loop-i.invariant.3,
-      map_first_turn (turned g.heard) _ _ _ h c.loop-i.invariant.4 c.turned-v.ensures,
-      c.loop-i.invariant.5,
-      c.loop-i.invariant.6,
-      c.loop-i.invariant.7,
-      found_set (meets ToldOwns) c.loop-i.i l _ k c.loop-i.invariant.8 c.or_owns-owns.ensures,
-      bids_set c.loop-i.i l _ k c.loop-i.invariant.9 c.with_bid-waiting.ensures,
+pub loop-t-preserved : goal.loop-t-preserved
+loop-t-preserved c =
+    let l = c.loop-t.t-items in
+    let i = c.loop-t.t-index in
+    let word = c.args.heard in
+    let k : i < length l = omega arith in (
+      map_first_turn (turned word) i _ _ c.loop-t-test.true c.loop-t.invariant.0 c.turned.ensures,
+      found_set (meets WasTold) i l _ k c.loop-t.invariant.1 (rw c.is_told-told.ensures (or_cond c.loop-t.told _)),
+      found_set (meets ToldOwns) i l _ k c.loop-t.invariant.2 (rw c.is_owns-owns.ensures (or_cond c.loop-t.owns _)),
+      bids_set i l _ k c.loop-t.invariant.3 c.with_bid-waiting.ensures,
     )
 
-pub returns : goal.returns
-returns c =
-    let g = c.args in
-    let e : c.loop-i.i ≡ attached_to g.self = omega arith in
-    let turns = c.loop-i.invariant.4 ∙ ap (λ (k : ℕ). map_first (turned g.heard) k g.self.turns) e in
-    let number = c.wrapping_add_u32.ensures.value ∙ ap (λ (s : ℕ). (s + 1) % 2 ^ 32) c.loop-i.invariant.6 in
-    heard_is g.self _ g.heard turns c.loop-i.invariant.5 number refl c.generator_next-quiet.ensures
-    (began_is g.self g.heard c.loop-i.self.turns c.loop-i.i e turns c.loop-i.invariant.8 number c.loop-i.invariant.7 c.latest.ensures)
-    (waiting_is g.self g.heard c.loop-i.self.turns c.loop-i.i e turns c.loop-i.invariant.9)
+pub returns-clause-bus : goal.returns-clause-bus
+returns-clause-bus c =
+    let b = c.args.self.now in
+    let word = c.args.heard in
+    let n = c.attached-n.result in
+    let l = c.loop-t.t-items in
+    let rest = drop n b.turns in
+    let i = c.loop-t.t-index in
+    let full : length b.turns ≡ seats = search (rules, length_mapped) in
+    let f : length (take n b.turns) ≡ n = length-take-le n b.turns (omega (arith, c.attached-n.ensures, attached_fit b)) in
+    let k : i ≤ length l = omega arith in
+    let j : i ≡ n = omega arith in
+    let turns = ap (λ (m : List Turn). m ++ rest) (c.loop-t.invariant.0 ∙ ap (λ (m : ℕ). map_first (turned word) m (take n b.turns)) j)
+    ∙ map_first_front (turned word) n b.turns ∙ ap (λ (m : ℕ). map_first (turned word) m b.turns) c.attached-n.ensures in
+    heard_is b _ word turns refl refl refl c.generator_next-self.ensures
+    (began_is b word (l ++ rest) i (j ∙ c.attached-n.ensures) turns (found_front (meets ToldOwns) i l rest k c.loop-t.invariant.2) refl refl c.latest-self.ensures)
+    (waiting_is b word (l ++ rest) i (j ∙ c.attached-n.ensures) turns (bids_front i l rest k c.loop-t.invariant.3))
+
+pub returns-clause-told : goal.returns-clause-told
+returns-clause-told c =
+    let b = c.args.self.now in
+    let n = c.attached-n.result in
+    let l = c.loop-t.t-items in
+    let i = c.loop-t.t-index in
+    let full : length b.turns ≡ seats = search (rules, length_mapped) in
+    let f : length (take n b.turns) ≡ n = length-take-le n b.turns (omega (arith, c.attached-n.ensures, attached_fit b)) in
+    let k : i ≤ length l = omega arith in
+    let j : i ≡ n = omega arith in
+    all_asked _ WasTold i (j ∙ c.attached-n.ensures ∙ same_count b _ refl) (found_front (meets WasTold) i l _ k c.loop-t.invariant.1)

@@ -4,4 +4,4 @@ use Rattle.buslog.proofs.log.Log.emptied.Goals as goal
 
 pub returns : goal.returns
 unfolding emptied
-returns c = simp c.fresh.ensures
+returns c = c.fresh.ensures

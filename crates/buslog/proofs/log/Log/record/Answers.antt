@@ -3,10 +3,10 @@ use mathlib.Core.Path.{sym, ◌∙◌}
 use Rattle.buslog.specs.Read.{record_into}
 use Rattle.buslog.proofs.log.Log.record.Goals as goal
 
-pub returns-then-is_of : goal.returns-then-is_of
+pub returns-then-not-is_of : goal.returns-then-not-is_of
 unfolding record_into
-returns-then-is_of c = rw (sym c.is_of.ensures ∙ c.if-is_of.true, ← c.after-rest.ensures) c.oldest.ensures
+returns-then-not-is_of c = rw (sym c.is_of.ensures ∙ c.if-not-is_of.true)
 
-pub returns-else-is_of : goal.returns-else-is_of
+pub returns : goal.returns
 unfolding record_into
-returns-else-is_of c = rw (sym c.is_of.ensures ∙ c.if-is_of.false, c.nothing.ensures)
+returns c = rw (sym c.is_of.ensures ∙ c.if-not-is_of.false, ← c.after.ensures) c.oldest.ensures

@@ -1,25 +1,12 @@
 -- `log::log::Log::set_up` meets its contract.
-use borrow.Author.Tests.{lt-ltb, le-ltb}
-use Rattle.buslog.specs.Log.{within_limits, set_up_for}
+use mathlib.Core.Path.{sym, ◌∙◌}
+use Rattle.buslog.specs.Log.{set_up_for}
 use Rattle.buslog.proofs.log.Log.set_up.Goals as goal
 
-pub returns-then-n-lt-FEWEST : goal.returns-then-n-lt-FEWEST
-unfolding set_up_for within_limits
-returns-then-n-lt-FEWEST c = simp (lt-ltb _ _ c.if-n-lt-FEWEST.true)
+pub returns-then-within_limits : goal.returns-then-within_limits
+unfolding set_up_for
+returns-then-within_limits c = rw (sym c.within_limits.ensures ∙ c.if-within_limits.true, c.fresh.ensures)
 
-pub returns-then-n-gt-MOST : goal.returns-then-n-gt-MOST
-unfolding set_up_for within_limits
-returns-then-n-gt-MOST c =
-    simp (
-      lt-ltb _ _ c.if-n-gt-MOST.true,
-      le-ltb _ _ c.if-n-lt-FEWEST.false,
-    )
-
-pub returns-else-n-gt-MOST : goal.returns-else-n-gt-MOST
-unfolding set_up_for within_limits
-returns-else-n-gt-MOST c =
-    simp (
-      c.fresh.ensures,
-      le-ltb _ _ c.if-n-gt-MOST.false,
-      le-ltb _ _ c.if-n-lt-FEWEST.false,
-    )
+pub returns-else-within_limits : goal.returns-else-within_limits
+unfolding set_up_for
+returns-else-within_limits c = rw (sym c.within_limits.ensures ∙ c.if-within_limits.false)

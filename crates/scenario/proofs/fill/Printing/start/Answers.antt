@@ -4,10 +4,4 @@ use Rattle.scenario.proofs.fill.Printing.start.Goals as goal
 
 pub returns : goal.returns
 unfolding started
-returns c =
-    simp (
-      c.printed.ensures,
-      c.power_on.ensures,
-      c.before-2.ensures,
-      c.form_of.ensures,
-    )
+returns c = simp (c.power_on.ensures, c.before-2.ensures, c.form_of.ensures)

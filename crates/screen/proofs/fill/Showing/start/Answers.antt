@@ -4,5 +4,4 @@ use Rattle.screen.proofs.fill.Showing.start.Goals as goal
 
 pub returns : goal.returns
 unfolding started
-returns c =
-    simp (c.so_far.ensures, c.power_on.ensures, c.before-2.ensures)
+returns c = simp (c.power_on.ensures, c.before-2.ensures)

@@ -1,43 +1,17 @@
--- `station::replies::ReplyBook::find` meets its contract.
-use borrow.Author.Rules.{rules}
-use mathlib.Core.Path.{◌≡◌, refl, sym, ap, ◌∙◌}
-use Rattle.station.specs.declared.replies.Reply.{Reply}
-use mathlib.Core.Bool.{true, false}
-use Prim.Native.Nat.{◌≤◌, ◌<◌}
-use native.Mathlib.Omega.{arith}
-use lib.ListN.{length}
-use Rattle.laws.proofs.Lists.{length_mapped}
-use Rattle.laws.proofs.First.{found_here, not_here, found_nowhere}
-use Rattle.station.specs.Replies.{no_reply, is_for, entry_of, count_in, entry_at}
-use Rattle.station.proofs.Entries.{count_fits}
+-- `station::replies::ReplyBook::find` meets its contract: the place of the first reply that passes the test.
+use Rattle.std.proofs.Common.{rules, ℕ, take, ap, ◌∙◌}
+use Rattle.std.proofs.lemmas.Iterator.{YieldsList-from_slice}
+use Rattle.std.proofs.lemmas.Iterator.Search.{position_from_yields_List}
+use Rattle.laws.specs.First.{first_from}
+use Rattle.laws.proofs.First.{first_position}
+use Rattle.station.specs.Replies.{is_for, entry_of}
 use Rattle.station.proofs.replies.ReplyBook.find.Goals as goal
 
-pub loop-i-init : goal.loop-i-init
-unfolding entry_of
-loop-i-init c = (search rules, c.count-n.ensures, search (rules, length_mapped), refl)
-
-pub returns-then-is_for : goal.returns-then-is_for
-unfolding entry_at
-returns-then-is_for c =
-    let g = c.args in
-    let h : c.loop-i.i < count_in g.self = omega arith in
-    let f : count_in g.self ≤ length g.self.entries = omega (arith, count_fits g.self) in
-    let e : is_for (entry_at g.self c.loop-i.i) g.pb g.sb ≡ true =
-    ap (λ (r : Reply). is_for r g.pb g.sb) (sym c.entry-e.ensures) ∙ sym c.is_for.ensures ∙ c.if-is_for.true in
-    sym (found_here (λ r. is_for r g.pb g.sb) g.self.entries (count_in g.self) f no_reply c.loop-i.i h e) ∙ c.loop-i.invariant.3
-
-pub loop-i-preserved : goal.loop-i-preserved
-unfolding entry_at
-loop-i-preserved c =
-    let g = c.args in
-    let h : c.loop-i.i < count_in g.self = omega arith in
-    let f : count_in g.self ≤ length g.self.entries = omega (arith, count_fits g.self) in
-    let e : is_for (entry_at g.self c.loop-i.i) g.pb g.sb ≡ false =
-    ap (λ (r : Reply). is_for r g.pb g.sb) (sym c.entry-e.ensures) ∙ sym c.is_for.ensures ∙ c.if-is_for.false in
-    (omega arith, c.loop-i.invariant.1, c.loop-i.invariant.2, sym (not_here (λ r. is_for r g.pb g.sb) g.self.entries (count_in g.self) f no_reply c.loop-i.i h e) ∙ c.loop-i.invariant.3)
-
 pub returns : goal.returns
+unfolding entry_of
 returns c =
     let g = c.args in
-    let f : count_in g.self ≤ length g.self.entries = omega (arith, count_fits g.self) in
-    sym (found_nowhere (λ r. is_for r g.pb g.sb) g.self.entries (count_in g.self) f no_reply c.loop-i.i (omega arith)) ∙ c.loop-i.invariant.3
+    let all = take c.count.result g.self.entries in
+    position_from_yields_List (λ r. is_for r g.pb g.sb) _ _ _ c.position.ensures.ran (YieldsList-from_slice all cc) (λ x b q k. search rules)
+    ∙ first_position (λ r. is_for r g.pb g.sb) all
+    ∙ ap (λ (k : ℕ). first_from (λ r. is_for r g.pb g.sb) 0 (take k g.self.entries)) c.count.ensures

@@ -1,11 +1,13 @@
 -- `station::station::Station::hear_reading` meets its contract.
 use mathlib.Core.Bool.{Bool, true, false}
+use mathlib.Core.Logic.{◌⊎◌, ⊎_elim}
 use mathlib.Core.Path.{◌≡◌, refl, sym, ap, ◌∙◌}
 use Prim.Native.Nat.{ℕ}
-use borrow.Author.Tests.{eq-eqb, ne_eqb}
+use borrow.Author.Tests.{ne_eqb}
 use Rattle.wire.specs.Reader.{read_one}
 use Rattle.wire.specs.declared.reader.Cursor.{Cursor}
 use Rattle.wire.specs.declared.reader.Outcome.{Outcome}
+use Rattle.wire.specs.declared.reader.Outcome.TheVariants.{Cut, NoMaster, Unusable, TooLong}
 use Rattle.wire.specs.declared.reader.Step.{Step}
 use Rattle.wire.specs.declared.part.Part.{Part}
 use Rattle.station.specs.declared.phase.Attempt.{Attempt}
@@ -14,21 +16,11 @@ use Rattle.station.specs.declared.read.Next.{Next}
 use Rattle.station.specs.declared.station.Station.{Station}
 use Rattle.station.specs.Addressed.{is_own}
 use Rattle.station.specs.Admission.{since_next, bids, noted, withdrawn}
-use Rattle.station.specs.Table.{reads_as, reads_step, reads, hear_bid, hear_reading}
+use Rattle.station.specs.declared.phase.Failure.TheVariants.{OverLong}
+use Rattle.station.specs.Table.{reader_fails, reads_as, reads_step, reads, hear_bid, hear_reading}
 use Rattle.station.specs.Turn.{with_access, with_part, goes}
 use Rattle.station.proofs.station.Station.hear_reading.Goals as goal
-use Rattle.station.proofs.station.Station.hear_reading.Goals.{then-bids+else-s-self, else-bids, in-More, in-Cut, in-NoMaster, in-Unusable, in-TooLong, in-BrokenPair, in-Whole}
-
-pub returns-then-s-self : goal.returns-then-s-self
-unfolding hear_reading hear_bid noted
-returns-then-s-self c =
-    simp (
-      c.owned.ensures,
-      c.noted.ensures,
-      eq-eqb _ _ c.if-s-self.true,
-      c.if-bids.true,
-      ← c.bids.ensures,
-    )
+use Rattle.station.proofs.station.Station.hear_reading.Goals.{then-bids+else-s-self, else-bids, in-More, in-Cut, in-BrokenPair, in-Whole}
 
 -- who heard another symbol than its QQ reads, marked or not
 bid-reads : (s u : Station) (symbol : ℕ) (cur : Cursor) (p : Part) (a : Attempt) (b m : Bool)
@@ -59,6 +51,14 @@ goes-as : (u : Station) (cur : Cursor) (p : Part) (a : Attempt) (o q : Outcome) 
 goes-as u cur p a o q n m f e g =
     ap (λ (x : Next). goes u x.phase x.told) e ∙ g ∙ ap (λ (x : Outcome). reads_as x u cur p a) (sym f)
 
+-- the four outcomes with which the reading comes to nothing
+nothing-as : (u : Station) (cur : Cursor) (p : Part) (a : Attempt) (o : Outcome) (n m : Next)
+    → (o ≡ Cut) ⊎ ((o ≡ NoMaster) ⊎ ((o ≡ Unusable) ⊎ (o ≡ TooLong)))
+    → n ≡ m → goes u m.phase m.told ≡ reader_fails p OverLong u → goes u n.phase n.told ≡ reads_as o u cur p a
+nothing-as u cur p a o n m f e g =
+    ⊎_elim (λ k. goes-as u cur p a o Cut n m k e g) (⊎_elim (λ k. goes-as u cur p a o NoMaster n m k e g)
+    (⊎_elim (λ k. goes-as u cur p a o Unusable n m k e g) (λ k. goes-as u cur p a o TooLong n m k e g))) f
+
 -- the station made once is the station that goes on
 made : (s : Station) (symbol : ℕ) (cur : Cursor) (p : Part) (a : Attempt) (t : Step) (own : Bool) (n : Next) (since : Since)
     → t ≡ read_one cur s.part symbol → own ≡ is_own s t.part.zz
@@ -74,12 +74,9 @@ pub returns : goal.returns
 unfolding goes
 returns c =
     made c.if-bids.self _ _ _ _ _ _ _ _ c.read-step.ensures c.is_own-own.ensures
-    (λ u z o. elim c.match-outcome.branch [
+    (λ u z o. elim c.match-step.branch [
       | in-More w ↦ goes-as u _ _ _ _ _ _ _ w.in-More.is w.next-is (w.read_on-next.ensures u z o)
-      | in-Cut w ↦ goes-as u _ _ _ _ _ _ _ w.in-Cut.is w.next-is (w.lost-next.ensures u refl)
-      | in-NoMaster w ↦ goes-as u _ _ _ _ _ _ _ w.in-NoMaster.is w.next-is (w.lost-next-in-NoMaster.ensures u refl)
-      | in-Unusable w ↦ goes-as u _ _ _ _ _ _ _ w.in-Unusable.is w.next-is (w.lost-next-in-Unusable.ensures u refl)
-      | in-TooLong w ↦ goes-as u _ _ _ _ _ _ _ w.in-TooLong.is w.next-is (w.lost-next-in-TooLong.ensures u refl)
+      | in-Cut w ↦ nothing-as u _ _ _ _ _ _ w.in-Cut.is w.next-is (w.lost-next.ensures u refl)
       | in-BrokenPair w ↦ goes-as u _ _ _ _ _ _ _ w.in-BrokenPair.is w.next-is (w.lost-next-in-BrokenPair.ensures u refl)
       | in-Whole w ↦ goes-as u _ _ _ _ _ _ _ w.in-Whole.is w.next-is (w.whole-next.ensures u z)
     ])

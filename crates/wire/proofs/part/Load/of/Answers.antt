@@ -1,37 +1,25 @@
--- `wire::part::Load::of` meets its contract: what is copied so far, and zeros behind it.
-use Rattle.std.proofs.Common.{◌≡◌, ◌<◌, length, refl, arith, rules}
-use Rattle.laws.proofs.Lists.{copied_one}
-use Rattle.wire.specs.Load.{fitting, load_of}
+-- `wire::part::Load::of` meets its contract: as many bytes as fit are copied, and behind them the zeros stay.
+use Rattle.std.proofs.Common.{ℕ, ◌≤◌, length, sym, ◌∙◌, arith, length-take}
+use Rattle.std.proofs.lemmas.List.{drop-replicate}
+use Rattle.wire.specs.Load.{load_of}
 use Rattle.wire.proofs.Fitting.{fits_sixteen, fits_length}
 use Rattle.wire.proofs.part.Load.of.Goals as goal
 
-pub loop-i-init : goal.loop-i-init
-loop-i-init c = (search rules, c.fitting-nn.ensures, refl)
+pub slice_bounds-copy_from_slice-end : goal.slice_bounds-copy_from_slice-end
+slice_bounds-copy_from_slice-end c =
+    let h : c.fitting-nn.result ≤ 16 = rw c.fitting-nn.ensures (fits_sixteen _) in
+    simp length-take (omega arith)
 
--- a byte of the slice goes to a place of the load
-module _ (c : goal.After-shared_slice_known-in-loop-i-1) where
-  low : c.loop-i.i < 16
-  low = omega (arith, fits_sixteen (length c.args.s.now))
+pub slice_bounds-copy_from_slice-end-2 : goal.slice_bounds-copy_from_slice-end-2
+slice_bounds-copy_from_slice-end-2 c =
+    let h : c.fitting-nn.result ≤ length c.args.s.now = rw c.fitting-nn.ensures (fits_length _) in
+    simp length-take (omega arith)
 
-  inside : c.loop-i.i < length c.args.s.now
-  inside = omega (arith, fits_length (length c.args.s.now))
-
-pub bounds-s-i : goal.bounds-s-i
-bounds-s-i c = inside c
-
-pub bounds-bytes-i : goal.bounds-bytes-i
-bounds-bytes-i c = low c
-
-pub loop-i-preserved : goal.loop-i-preserved
-loop-i-preserved c =
-    let s = c.args.s.now in (
-      omega arith,
-      c.loop-i.invariant.1,
-      rw c.loop-i.invariant.2 (copied_one s 16 c.loop-i.i (low c) (inside c)),
-    )
+pub copy_from_slice-requires : goal.copy_from_slice-requires
+copy_from_slice-requires c =
+    sym (slice_bounds-copy_from_slice-end c) ∙ slice_bounds-copy_from_slice-end-2 c
 
 pub returns : goal.returns
 unfolding load_of
 returns c =
-    let e : c.loop-i.i ≡ fitting (length c.args.s.now) = omega arith in
-    simp (c.loop-i.invariant.2, e, c.fitting-nn.ensures)
+    simp (c.copy_from_slice.ensures.after, c.fitting-nn.ensures, drop-replicate {X = ℕ})
