@@ -2,7 +2,7 @@
 #![tactic(auto, using(crate::proofs::Written::penned_both, crate::proofs::Written::penned_more, crate::proofs::Written::penned_none), unfolding(crate::specs::Pen::blank, crate::specs::Pen::hex_digit, crate::specs::Pen::hex_text, crate::specs::Pen::last_digit, crate::specs::Pen::decimal_text))]
 
 ghost use Rattle.std.specs.Prelude.{◌≡◌, [], ◌∷◌};
-ghost use Rattle.scenario.specs.Pen.{blank, rewound, penned, hex_digit, byte_text, hex_text, last_digit, digits_of, decimal_text};
+ghost use Rattle.scenario.specs.Pen.{blank, rewound, pen, penned, hex_digit, byte_text, hex_text, last_digit, digits_of, decimal_text};
 
 // A page has room for 32 lines of at most 80 bytes: the lines of any slot.
 pub const PAGE: usize = 2560;
@@ -15,6 +15,18 @@ pub const ROOM: usize = 65536;
 pub struct Pen {
     pub page: [u8; ROOM],
     pub at: usize,
+}
+
+// A byte at a place of the buffer, and the place behind it.
+fn laid(page: &mut [u8; ROOM], at: usize, b: u8) -> usize
+    ensures { pen page.new result ≡ penned (pen page.old at) (b ∷ []) }
+{
+    if at < ROOM {
+        page[at] = b;
+        at + 1
+    } else {
+        at
+    }
 }
 
 impl Pen {
@@ -39,26 +51,25 @@ impl Pen {
     pub fn put(&mut self, b: u8)
         ensures { self.new ≡ penned self.old (b ∷ []) }
     {
-        if self.at < ROOM {
-            self.page[self.at] = b;
-            self.at += 1;
-        }
+        self.at = laid(&mut self.page, self.at, b);
     }
 
+    // The place is kept in a local: in the pen it would be stored and read again for each byte.
     pub fn word(&mut self, s: &[u8])
         ensures { self.new ≡ penned self.old s.now }
     {
+        let mut at = self.at;
         for b in s {
-            self.put(*b);
+            at = laid(&mut self.page, at, *b);
         }
+        self.at = at;
     }
 
     // A byte in two digits. By hand, as `decimal` is: definitions say each byte, and `write!` would answer a Result that cannot fail here.
     pub fn byte(&mut self, b: u8)
         ensures { self.new ≡ penned self.old (byte_text b) }
     {
-        self.put(hex_digit(b / 16));
-        self.put(hex_digit(b));
+        self.word(&[hex_digit(b / 16), hex_digit(b)]);
     }
 
     // A space and a byte.
@@ -80,10 +91,13 @@ impl Pen {
         ensures { self.new ≡ penned self.old (digits_of most n) }
     {
         if 0 < most {
-            if 10 <= n {
+            // In a branch of its own, one digit keeps nothing beside a call.
+            if n < 10 {
+                self.put(last_digit(n));
+            } else {
                 self.digits(n / 10, most - 1);
+                self.put(last_digit(n));
             }
-            self.put(last_digit(n));
         }
     }
 }
