@@ -38,7 +38,8 @@ fn run_read<R: Read, W: Write>(q: Question, from: &mut R, to: &mut W) -> Result<
     ensures ok { OnOk result (Plays (counts_output (Some q)) (R.remaining from.old) (R.remaining from.new) (W.contents to.old) (W.contents to.new)) }
     ensures err { IfErr result (λ f. Leaves f (W.contents to.old) (W.contents to.new)) }
 {
-    let input = Input::read(from)?;
+    let mut input = Input::new();
+    input.read(from)?;
     run(q, input.given(), to)
 }
 

@@ -35,7 +35,10 @@ pub struct Word {
 }
 
 impl Word {
-    pub fn get(rt: &impl Env, i: usize) -> Word {
+    // No more bytes than the word has; which they are no contract can say, since the runtime promises only their number.
+    pub fn get(rt: &impl Env, i: usize) -> Word
+        ensures { result.used ≤ length result.bytes }
+    {
         let mut bytes = [0; WORD];
         let used = get(rt, i, &mut bytes);
         Word { bytes, used }

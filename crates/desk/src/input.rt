@@ -1,5 +1,5 @@
 // What a program reads before it runs: a buffer, and how much of it the reader filled.
-ghost use Rattle.std.specs.Prelude.{◌≡◌, ◌≤◌, take, IfOk, IfErr};
+ghost use Rattle.std.specs.Prelude.{◌≡◌, ◌≤◌, [], take, IfErr, OnOk};
 ghost use Rattle.desk.specs.Playing.{Reads, IsOfInput};
 
 use crate::failure::Failure;
@@ -16,13 +16,24 @@ pub struct Input {
 }
 
 impl Input {
-    pub fn read<R: Read>(from: &mut R) -> Result<Input, Failure>
-        ensures ok { IfOk result (λ i. Reads (R.remaining from.old) (R.remaining from.new) (take i.used i.bytes)) }
-        ensures err { IfErr result IsOfInput }
+    // Nothing is read yet.
+    pub fn new() -> Input
+        ensures { take result.used result.bytes ≡ [] }
     {
-        let mut bytes = [0; INPUT];
-        let used = crate::read(from, &mut bytes).map_err(Failure::Input)?;
-        Ok(Input { bytes, used })
+        Input {
+            bytes: [0; INPUT],
+            used: 0,
+        }
+    }
+
+    // In place of what was read before; where it fails nothing is given. Lent, since 64 KB handed out in a Result are copied.
+    pub fn read<R: Read>(&mut self, from: &mut R) -> Result<(), Failure>
+        ensures ok { OnOk result (Reads (R.remaining from.old) (R.remaining from.new) (take self.new.used self.new.bytes)) }
+        ensures err { IfErr result (λ f. IsOfInput f × (take self.new.used self.new.bytes ≡ [])) }
+    {
+        self.used = 0;
+        self.used = crate::read(from, &mut self.bytes).map_err(Failure::Input)?;
+        Ok(())
     }
 
     pub fn given(&self) -> &[u8]

@@ -64,7 +64,8 @@ fn run_read<R: Read, W: Write>(
     ensures ok { l ≡ fresh_for (length bytes.old) → within_limits (length bytes.old) ≡ true → OnOk result (Plays (wirelog_output (length bytes.old)) (R.remaining from.old) (R.remaining from.new) (W.contents to.old) (W.contents to.new)) }
     ensures err { IfErr result (λ f. Leaves f (W.contents to.old) (W.contents to.new)) }
 {
-    let input = Input::read(from)?;
+    let mut input = Input::new();
+    input.read(from)?;
     run(l, bytes, input.given(), to)
 }
 

@@ -26,7 +26,8 @@ pub fn play<R: Read, W: Write>(from: &mut R, to: &mut W) -> Result<(), Failure>
     ensures ok { OnOk result (Plays values_output (R.remaining from.old) (R.remaining from.new) (W.contents to.old) (W.contents to.new)) }
     ensures err { IfErr result (λ f. Leaves f (W.contents to.old) (W.contents to.new)) }
 {
-    let input = Input::read(from)?;
+    let mut input = Input::new();
+    input.read(from)?;
     run(input.given(), to)
 }
 

@@ -10,7 +10,7 @@ use Rattle.scenario.proofs.Fits.{form_most}
 use native.Mathlib.Omega.{arith}
 use Rattle.diary.specs.Output.{opening_text}
 use Rattle.diary.proofs.WirelogPrints.{refused_most}
-use Rattle.desk.proofs.Written.{text_put}
+use Rattle.desk.proofs.Written.{text_put_first}
 use Rattle.logdesk.proofs.refuse.Goals as goal
 
 opening_most : (s : Result Log BadLength) (f : Result ⊤ FormError) → length (opening_text s f) ≤ 40
@@ -19,5 +19,5 @@ opening_most (Err e) f = refused_most
 
 pub returns-clause-ok : goal.returns-clause-ok
 returns-clause-ok g c =
-    let put = text_put (opening_text c.args.s c.args.f) c.new-out.ensures c.opening.ensures (omega (arith, opening_most c.args.s c.args.f)) in
+    let put = text_put_first (opening_text c.args.s c.args.f) c.new-out.ensures c.opening.ensures (omega (arith, opening_most c.args.s c.args.f)) in
     subst (λ t. OnOk c.wrote.result (Appends (g.W.Write.contents c.args.to.now) (g.W.Write.contents c.wrote.new.to) t)) put c.wrote.ensures.ok
