@@ -66,6 +66,10 @@ pub fn print<P: Fills, W: Write>(mut p: P, s: &[u8], to: &mut W) -> Result<(), F
     ensures ok { (x : List ℕ) → P.Prints s.now p blank.page x → OnOk result (Appends (W.contents to.old) (W.contents to.new) x) }
     ensures err { IfErr result IsOfOutput }
 {
+    // Nothing is cleared where nothing is to be printed.
+    if p.is_over(s) {
+        return Ok(());
+    }
     let mut out = Pen::new();
     // No `for`: a fill says whether it was the last.
     while !p.is_over(s) {

@@ -11,6 +11,7 @@ use lib.Dec.{ltb}
 use lib.ListN.{length, get_or, take}
 use lib.Seq.{take_all, take-suc}
 use Rattle.std.proofs.lemmas.List.{length-replicate}
+pub use Rattle.laws.proofs.Lists.{left_of, left_of_first}
 use Rattle.scenario.specs.declared.pen.Pen.{Pen}
 use Rattle.scenario.specs.Pen.{blank, room, penned_one, penned, hex_digit, hex_text, last_digit, digits_of}
 

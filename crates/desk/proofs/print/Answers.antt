@@ -11,14 +11,14 @@ loop-out-init g c =
     λ x prints. ([], x, subst (λ (q : Pen). g.P.Fills.Prints s c.args.p q.page x) (sym c.new-out.ensures) prints, Appends-nil _, refl)
 
 pub loop-out-smaller : goal.loop-out-smaller
-loop-out-smaller g c = c.next.ensures.nearer (sym c.is_over.ensures ∙ c.loop-out-test.true)
+loop-out-smaller g c = c.next.ensures.nearer (sym c.is_over-in-loop-out.ensures ∙ c.loop-out-test.true)
 
 pub loop-out-preserved : goal.loop-out-preserved
 loop-out-preserved g c =
     λ x all.
     let out = c.next.new.out in
     let (written, rest, prints, gained, whole) = c.loop-out.invariant x all in
-    let (more, split, later) = c.next.ensures.prints (sym c.is_over.ensures ∙ c.loop-out-test.true) rest prints in
+    let (more, split, later) = c.next.ensures.prints (sym c.is_over-in-loop-out.ensures ∙ c.loop-out-test.true) rest prints in
     let now = take out.at out.page in (
       written ++ now,
       more,
@@ -31,5 +31,5 @@ pub returns-clause-ok : goal.returns-clause-ok
 returns-clause-ok g c =
     λ x all.
     let (written, rest, prints, gained, whole) = c.loop-out.invariant x all in
-    let none = g.met.P.Fills.ends c.args.s.now c.loop-out.p c.loop-out.out.page rest (sym c.is_over.ensures ∙ c.loop-out-test.false) prints in
+    let none = g.met.P.Fills.ends c.args.s.now c.loop-out.p c.loop-out.out.page rest (sym c.is_over-in-loop-out.ensures ∙ c.loop-out-test.false) prints in
     subst (λ (l : List ℕ). Appends (g.W.Write.contents c.args.to.now) (g.W.Write.contents c.loop-out.to) l) (sym (append-nil written) ∙ ap (λ l. written ++ l) (sym none) ∙ whole) gained
