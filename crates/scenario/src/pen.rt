@@ -76,14 +76,19 @@ impl Pen {
     pub fn hex(&mut self, b: u8)
         ensures { self.new ≡ penned self.old (hex_text b) }
     {
-        self.put(b' ');
-        self.byte(b);
+        self.word(&[b' ', hex_digit(b / 16), hex_digit(b)]);
     }
 
+    #[inline(always)]
     pub fn decimal(&mut self, n: u32)
         ensures { self.new ≡ penned self.old (decimal_text n) }
     {
-        self.digits(n, 10);
+        // One digit costs no call.
+        if n < 10 {
+            self.put(last_digit(n));
+        } else {
+            self.digits(n, 10);
+        }
     }
 
     // The text of n/10, and behind it the last digit of n; `most` digits at most.
@@ -91,13 +96,10 @@ impl Pen {
         ensures { self.new ≡ penned self.old (digits_of most n) }
     {
         if 0 < most {
-            // In a branch of its own, one digit keeps nothing beside a call.
-            if n < 10 {
-                self.put(last_digit(n));
-            } else {
+            if 10 <= n {
                 self.digits(n / 10, most - 1);
-                self.put(last_digit(n));
             }
+            self.put(last_digit(n));
         }
     }
 }
